@@ -1,0 +1,241 @@
+-- Between records nothing is due by reorder or latency: a finish hands out until that holds, and nothing else makes one wait.
+use Prim.Native.Nat.{ℕ, zero, suc, _+_, _-_, _*_, _^_, _/_, _≤_, _<_, zero-le}
+use mathlib.Core.Path.{_≡_, refl, sym, ap, _∙_, subst}
+use mathlib.Core.Logic.{_⊎_, inl, inr, ⊎-elim}
+use mathlib.Core.List.{List, [], _∷_, _++_, map}
+use mathlib.Core.Bool.{Bool, true, false, cond, not, _&&_, _||_}
+use native.Mathlib.Omega.{arith}
+use lib.Dec.{eqb, ltb, leb}
+use lib.ListN.{length, length-map}
+use borrow.Author.Tests.{ltb-true, ltb-false, le-ltb, lt-ltb}
+use Rattle.paper.specs.declared.Mark.{Mark}
+use Rattle.paper.specs.declared.Picture.{Picture}
+use Rattle.paper.specs.declared.Found.{Found}
+use Rattle.paper.specs.declared.Limits.{Limits}
+use Rattle.paper.specs.declared.Current.{Current}
+use Rattle.paper.specs.declared.Now.{Now}
+use Rattle.paper.specs.Words.{keep, anyB}
+use Rattle.paper.specs.Records.{Fields, limitsOf, fieldsOf}
+use Rattle.paper.specs.State.{Session, fresh, isMarked, onNow}
+use Rattle.paper.specs.Sets.{marked}
+use Rattle.paper.specs.Output.{Moved, still, turns, lowest, leave, stay, done, handFound, handOut, cleared, emptied, inUse, removed, handWhile, dueLate, dueFull, due, beforeDecoding}
+use Rattle.paper.specs.Begin.{markedStore, startsOver, noPrior, roomMade}
+use Rattle.paper.specs.Calls.{raised, stored, finished, drained, drainedNow, discarded, configuredSession}
+use Rattle.paper.specs.Step.{Decided, decideOf, stepOf, sessionAfter}
+use Rattle.paper.specs.declared.Now.the-variants as Now
+use Rattle.paper.specs.declared.Found.the-variants.{Nothing, The}
+use Rattle.paper.proofs.Bools as B
+use Rattle.paper.proofs.Bools.{both, left, right, split, not-both, by-case}
+use Rattle.paper.proofs.Moves.{others, lowest-of}
+use Rattle.paper.proofs.Quiet.{waitings, fewer, one-fewer, few-wait, lowest-none, emptied-leaves}
+use Rattle.paper.proofs.Sizes.{done-fewer, done-one}
+use Rattle.paper.proofs.Lasts.{by-begin}
+use Rattle.paper.proofs.Ways.{by-ways}
+
+unfoldable pub late : Limits → Picture → Bool
+late l p = p .waiting && leb (l .latency) (p .count)
+
+-- not due: few wait, and none is late where latency counts
+pub record Calm (l : Limits) (ps : List Picture) : Type 0 where
+  pub few : length (waitings ps) ≤ l .reorder
+  pub none : (not (eqb (l .latency) 0) && anyB (late l) ps) ≡ false
+
+pub calm-due : (l : Limits) (ps : List Picture) → Calm l ps → dueLate l ps ≡ false
+unfolding dueLate waitings late
+calm-due l ps c = rw (le-ltb (l .reorder) (length (keep (λ (p : Picture). p .waiting) ps)) (c .few), c .none)
+
+or-false : (a b : Bool) → (a || b) ≡ false → (a ≡ false) × (b ≡ false)
+or-false true b e = not-both true refl e
+or-false false b e = (refl, e)
+
+due-calm : (l : Limits) (ps : List Picture) → dueLate l ps ≡ false → Calm l ps
+unfolding dueLate waitings late
+due-calm l ps e =
+    let o = or-false (ltb (l .reorder) (length (keep (λ (p : Picture). p .waiting) ps))) _ e in
+    record { few = ltb-false (l .reorder) (length (keep (λ (p : Picture). p .waiting) ps)) (o .0); none = o .1 }
+
+-- fewer lateness tests hold in a part
+and-sub : (a x y : Bool) → (y ≡ true → x ≡ true) → (a && x) ≡ false → (a && y) ≡ false
+and-sub true x true h e = sym (h refl) ∙ e
+and-sub true x false h e = refl
+and-sub false x y h e = refl
+
+calm-keep : (l : Limits) (f : Picture → Bool) (ps : List Picture) → Calm l ps → Calm l (keep f ps)
+calm-keep l f ps c =
+    record {
+      few = omega (arith, fewer f ps, c .few);
+      none = and-sub (not (eqb (l .latency) 0)) (anyB (late l) ps) (anyB (late l) (keep f ps)) (λ h. B.any-keep (late l) f ps h) (c .none);
+    }
+
+late-done : (l : Limits) (n : ℕ) (p : Picture) → late l (done n p) ≡ true → late l p ≡ true
+unfolding late
+late-done l n p h = shrink (p .waiting) (not (eqb n (p .serial .0))) _ h
+  where
+    shrink : (w b c : Bool) → ((w && b) && c) ≡ true → (w && c) ≡ true
+    shrink true true c e = e
+    shrink true false c e = not-both false e refl
+    shrink false b c e = e
+
+calm-done : (l : Limits) (n : ℕ) (ps : List Picture) → Calm l ps → Calm l (map (done n) ps)
+calm-done l n ps c =
+    record {
+      few = omega (arith, done-fewer n ps, c .few);
+      none =
+          and-sub (not (eqb (l .latency) 0)) (anyB (late l) ps) (anyB (late l) (map (done n) ps))
+          (λ h. B.any-mono (λ (p : Picture). late l (done n p)) (late l) (λ p k. late-done l n p k) ps (sym (B.any-map (late l) (done n) ps) ∙ h)) (c .none);
+    }
+
+calm-hand : (l : Limits) (always : Bool) (ps : List Picture) → Calm l ps → Calm l (handOut always ps .pics)
+unfolding handOut
+calm-hand l always ps c = go (lowest Nothing ps)
+  where
+    go : (x : Found) → Calm l (handFound always ps x .pics)
+    go Nothing = c
+    go (The p) =
+        by-case (λ (m : Moved). Calm l (m .pics)) (always || not (isMarked (p .mark))) (leave ps p) (stay ps p)
+        (λ _. calm-keep l (λ (q : Picture). not (eqb (p .serial .0) (q .serial .0))) ps c) (λ _. calm-done l (p .serial .0) ps c)
+
+calm-turns : (l : Limits) (f : List Picture → Moved) → ((qs : List Picture) → Calm l qs → Calm l (f qs .pics)) → (n : ℕ) (ps : List Picture) → Calm l ps → Calm l (turns n f ps .pics)
+unfolding turns
+calm-turns l f h zero ps c = c
+calm-turns l f h (suc n) ps c = calm-turns l f h n (f ps .pics) (h ps c)
+
+calm-none : (l : Limits) → Calm l []
+unfolding waitings keep anyB
+calm-none l = record { few = zero-le; none = mathlib.Core.Bool.and-false (not (eqb (l .latency) 0)) }
+
+-- one turn of "hand out while due"
+turnOf : (List Picture → Bool) → List Picture → Moved
+turnOf g qs = cond (g qs) (handOut false qs) (still qs)
+
+no-late : (l : Limits) (ps : List Picture) → length (waitings ps) ≡ 0 → anyB (late l) ps ≡ true → false ≡ true
+unfolding waitings keep anyB late
+no-late l [] z h = h
+no-late l (p ∷ ps) z h =
+    split (p .waiting)
+    (λ w. absurd (let z1 : suc (length (keep (λ (q : Picture). q .waiting) ps)) ≡ 0 = rw w at z in omega arith))
+    (λ w. no-late l ps (rw w at z) (rw w at h))
+
+none-due : (l : Limits) (ps : List Picture) → length (waitings ps) ≡ 0 → dueLate l ps ≡ false
+none-due l ps z = calm-due l ps (record { few = omega arith; none = and-sub (not (eqb (l .latency) 0)) false (anyB (late l) ps) (λ h. no-late l ps z h) (mathlib.Core.Bool.and-false (not (eqb (l .latency) 0))) })
+
+hand-less : (b : Bool) (ps : List Picture) (n : ℕ) → length (waitings ps) ≤ suc n → length (waitings (handOut b ps .pics)) ≤ n
+unfolding handOut
+hand-less b ps n h = go (lowest Nothing ps) refl
+  where
+    go : (x : Found) → lowest Nothing ps ≡ x → length (waitings (handFound b ps x .pics)) ≤ n
+    go Nothing e = omega (arith, lowest-none Nothing ps e .1)
+    go (The p) e =
+        ⊎-elim {C = length (waitings (handFound b ps (The p) .pics)) ≤ n} (λ c. absurd (let z : _≡_ {A = ℕ} 0 1 = cc in omega arith))
+        (λ m.
+        by-case (λ (x : Moved). length (waitings (x .pics)) ≤ n) (b || not (isMarked (p .mark))) (leave ps p) (stay ps p)
+        (λ _. omega (arith, one-fewer p ps (m .0) (m .1))) (λ _. omega (arith, done-one p ps (m .0) (m .1))))
+        (lowest-of Nothing ps p e)
+
+-- "hand out while one is due and one waits" ends with nothing due or nothing waiting, whatever "due" is
+waits-none : (g : List Picture → Bool) (n : ℕ) (ps : List Picture) → g ps ≡ false → g (turns n (turnOf g) ps .pics) ≡ false
+unfolding turns turnOf
+waits-none g zero ps e = e
+waits-none g (suc n) ps e = rw e (waits-none g n ps e)
+
+ends-after : (g : List Picture → Bool) (n : ℕ) (ps : List Picture) → length (waitings ps) ≤ n → (g (turns n (turnOf g) ps .pics) ≡ false) ⊎ (length (waitings (turns n (turnOf g) ps .pics)) ≡ 0)
+unfolding turns turnOf
+ends-after g zero ps h = inr (omega arith)
+ends-after g (suc n) ps h = split (g ps) (λ e. rw e (ends-after g n (handOut false ps .pics) (hand-less false ps n h))) (λ e. rw e (inl (waits-none g n ps e)))
+
+pub while-ends : (g : List Picture → Bool) (ps : List Picture) → (g (handWhile g ps .pics) ≡ false) ⊎ (length (waitings (handWhile g ps .pics)) ≡ 0)
+unfolding handWhile turnOf
+while-ends g ps = ends-after g (length ps) ps (few-wait ps)
+
+pub while-calm : (l : Limits) (ps : List Picture) → Calm l (handWhile (dueLate l) ps .pics)
+while-calm l ps = due-calm l (handWhile (dueLate l) ps .pics) (⊎-elim (λ e. e) (λ z. none-due l (handWhile (dueLate l) ps .pics) z) (while-ends (dueLate l) ps))
+
+calm-while : (l : Limits) (g : List Picture → Bool) (ps : List Picture) → Calm l ps → Calm l (handWhile g ps .pics)
+unfolding handWhile
+calm-while l g ps c =
+    calm-turns l (λ (qs : List Picture). cond (g qs) (handOut false qs) (still qs))
+    (λ qs k. by-case (λ (m : Moved). Calm l (m .pics)) (g qs) _ _ (λ _. calm-hand l false qs k) (λ _. k)) (length ps) ps c
+
+calm-empty : (l : Limits) (ps : List Picture) → ps ≡ [] → Calm l ps
+calm-empty l ps e = subst (Calm l) (sym e) (calm-none l)
+
+waiting-map : (g : Picture → Picture) (ps : List Picture) → ((p : Picture) → g p .waiting ≡ p .waiting) → waitings (map g ps) ≡ map g (waitings ps)
+unfolding waitings
+waiting-map g ps h = B.keep-map (λ (p : Picture). p .waiting) g (λ (p : Picture). p .waiting) h ps
+
+marked-late : (l : Limits) (p : Picture) (m : Mark) → late l (marked m p) ≡ true → late l p ≡ true
+unfolding late
+marked-late l p m e = e
+
+-- marking leaves it
+calm-mark : (l : Limits) (g : Picture → Picture) (ps : List Picture) → ((p : Picture) → (m : Mark) × (g p ≡ marked m p)) → Calm l ps → Calm l (map g ps)
+calm-mark l g ps h c =
+    record {
+      few = few-marked ps (c .few);
+      none = and-sub (not (eqb (l .latency) 0)) (anyB (late l) ps) (anyB (late l) (map g ps))
+          (λ k. B.any-mono (λ (p : Picture). late l (g p)) (late l) (λ p q. late-marked p q) ps (sym (B.any-map (late l) g ps) ∙ k)) (c .none);
+    }
+  where
+    same-number : (ps : List Picture) → length (waitings (map g ps)) ≡ length (waitings ps)
+    same-number ps = ap (λ (qs : List Picture). length qs) (waiting-map g ps (λ p. ap (λ (x : Picture). x .waiting) (h p .1))) ∙ length-map (waitings ps) g
+
+    few-marked : (ps : List Picture) → length (waitings ps) ≤ l .reorder → length (waitings (map g ps)) ≤ l .reorder
+    few-marked ps k = omega (arith, same-number ps)
+
+    late-marked : (p : Picture) → late l (g p) ≡ true → late l p ≡ true
+    late-marked p q = marked-late l p (h p .0) (ap (late l) (sym (h p .1)) ∙ q)
+
+-- what a record leaves
+abbrev pub Quiet : Session → Type 0
+Quiet s = Calm (s .limits) (s .store)
+
+calm-room : (s : Session) (f : Fields) → Quiet s → Calm (s .limits) (roomMade s f .pics)
+unfolding roomMade beforeDecoding emptied cleared removed
+calm-room s f c =
+    let k : Calm (s .limits) (markedStore s f) = by-begin (Calm (s .limits)) (λ g ps h q. calm-mark (s .limits) g ps h q) s f c in
+    by-case (λ (m : Moved). Calm (s .limits) (m .pics)) (startsOver s f && not (s .ended)) _ _
+    (λ _. by-case (λ (m : Moved). Calm (s .limits) (m .pics)) (noPrior s f) _ _ (λ _. calm-none (s .limits)) (λ _. calm-none (s .limits)))
+    (λ _. calm-while (s .limits) (due true (s .limits)) (keep inUse (markedStore s f)) (calm-keep (s .limits) inUse (markedStore s f) k))
+
+record Calms (d : Decided) : Type 0 where
+  calm : Quiet (d .next)
+
+module _ (s : Session) (r : List ℕ) (c : Quiet s) where
+  drained-calm : (l : Limits) → Calm l (drainedNow s .pics)
+  unfolding drained
+  drained-calm l = calm-empty l _ (emptied-leaves (onNow (s .current) (still (s .store)) (finished (s .limits) (s .store)) .pics))
+
+  finished-calm : (k : Current) → Calm (s .limits) (finished (s .limits) (s .store) k .pics)
+  unfolding finished
+  finished-calm k = while-calm (s .limits) (map raised (s .store) ++ (stored k ∷ []))
+
+  pub calm-step : Quiet (decideOf s r .next)
+  unfolding discarded
+  calm-step =
+      by-ways s r Calms
+      (record {
+        malformed = record { calm = c };
+        no = λ kind n k b l h. record { calm = c };
+        configure = λ k a b. record { calm = drained-calm (configuredSession s (limitsOf r) .limits) };
+        begin = λ k z. record { calm = calm-room s (fieldsOf r) c };
+        lists = λ k x e z. record { calm = c };
+        finish = λ k x e z. record { calm = finished-calm x };
+        drain = λ k a. record { calm = drained-calm (s .limits) };
+        discard = λ k. record { calm = calm-none (s .limits) };
+        end = λ k. record { calm = c };
+        abandon = λ k x e. record { calm = c };
+      }) .calm
+
+-- Between the records of any session from fresh, waiting ≤ reorder, and no waiting picture's count has reached the latency
+always-calm : (s : Session) (rs : List (List ℕ)) → Quiet s → Quiet (sessionAfter s rs)
+unfolding sessionAfter stepOf
+always-calm s [] c = c
+always-calm s (r ∷ rs) c = always-calm (decideOf s r .next) rs (calm-step s r c)
+
+pub calm-between : (rs : List (List ℕ)) → Quiet (sessionAfter fresh rs)
+calm-between rs = always-calm fresh rs (calm-none (fresh .limits))
+
+-- where a store is calm, due means full: in begin only the buffering test is ever true
+pub due-is-full : (l : Limits) (ps : List Picture) → Calm l ps → due true l ps ≡ leb (l .buffering) (length ps)
+unfolding dueFull
+due-is-full l ps c = rw (calm-due l ps c)

@@ -1,0 +1,99 @@
+-- Records: kinds, bodies and the fields of a body.
+use Prim.Native.Nat.{ℕ, _+_, _*_}
+use mathlib.Core.List.{List, [], _∷_}
+use mathlib.Core.Bool.{Bool, true, false, cond, _&&_}
+use lib.ListN.{length}
+use lib.Dec.{ltb, leb, eqb}
+use Rattle.paper.specs.declared.Surface.{Surface}
+use Rattle.paper.specs.declared.Limits.{Limits}
+use Rattle.paper.specs.declared.ShortEntry.{ShortEntry}
+use Rattle.paper.specs.declared.LongEntry.{LongEntry}
+use Rattle.paper.specs.Words.{table}
+use Rattle.paper.specs.Numbers.{u8, u16, u32, i32, bit, aSurface, bodyLimit}
+
+-- "A record is u16 body length, u16 kind, body."
+abbrev pub lengthOf : List ℕ → ℕ
+lengthOf r = u16 r 0
+
+abbrev pub kindOf : List ℕ → ℕ
+kindOf r = u16 r 2
+
+-- "1 configure: k u8, capacity u8, buffering u8, reorder u8, latency u16"
+abbrev pub limitsOf : List ℕ → Limits
+limitsOf r = record { k = u8 r 4; capacity = u8 r 5; buffering = u8 r 6; reorder = u8 r 7; latency = u16 r 8 }
+
+-- "2 begin: NAL type u8, temporal id u8, flags u8, lsb u16, surface u32, counts neg, pos, lt u8 each; then per neg, then per pos:
+-- delta i32, used u8; per lt: lsb u16, flags u8, cycle u32"
+pub record Fields : Type 0 where
+  pub nal : ℕ
+  pub tid : ℕ
+  pub flags : ℕ
+  pub lsb : ℕ
+  pub surface : Surface
+  pub neg : List ShortEntry
+  pub pos : List ShortEntry
+  pub lt : List LongEntry
+
+abbrev pub shortAt : List ℕ → ℕ → ℕ → ShortEntry
+shortAt r at i = record { delta = i32 r (at + 5 * i); used = u8 r (at + 5 * i + 4) }
+
+abbrev pub longAt : List ℕ → ℕ → ℕ → LongEntry
+longAt r at i = record { lsb = u16 r (at + 7 * i); flags = u8 r (at + 7 * i + 2); cycle = u32 r (at + 7 * i + 3) }
+
+unfoldable pub fieldsOf : List ℕ → Fields
+fieldsOf r =
+    record {
+      nal = u8 r 4;
+      tid = u8 r 5;
+      flags = u8 r 6;
+      lsb = u16 r 7;
+      surface = aSurface (u32 r 9);
+      neg = table (shortAt r 16) (u8 r 13);
+      pos = table (shortAt r (16 + 5 * u8 r 13)) (u8 r 14);
+      lt = table (longAt r (16 + 5 * (u8 r 13 + u8 r 14))) (u8 r 15);
+    }
+
+-- "3 lists: slice type u8 (0 B, 1 P, 2 I), flags u8 (bit 0 modify list 0, bit 1 modify list 1, bit 2 current picture is a
+-- candidate), a0 u8, a1 u8; a0 entry bytes if bit 0; a1 if bit 1". What it says of one list:
+pub record ListAsk : Type 0 where
+  pub uses : Bool
+  pub active : ℕ
+  pub modify : Bool
+  pub entries : List ℕ
+
+pub record Slice : Type 0 where
+  pub sliceType : ℕ
+  pub flags : ℕ
+  pub own : Bool
+  pub ask0 : ListAsk
+  pub ask1 : ListAsk
+
+-- how many entry bytes stand for list 0 and for list 1: the modify bits alone decide
+abbrev pub entries0 : List ℕ → ℕ
+entries0 r = cond (bit 0 (u8 r 5)) (u8 r 6) 0
+
+abbrev pub entries1 : List ℕ → ℕ
+entries1 r = cond (bit 1 (u8 r 5)) (u8 r 7) 0
+
+-- a B slice uses both lists, a P slice list 0 alone, an I slice none
+unfoldable pub sliceOf : List ℕ → Slice
+sliceOf r =
+    record {
+      sliceType = u8 r 4;
+      flags = u8 r 5;
+      own = bit 2 (u8 r 5);
+      ask0 = record { uses = ltb (u8 r 4) 2; active = u8 r 6; modify = bit 0 (u8 r 5); entries = table (λ (i : ℕ). u8 r (8 + i)) (entries0 r) };
+      ask1 = record { uses = eqb (u8 r 4) 0; active = u8 r 7; modify = bit 1 (u8 r 5); entries = table (λ (i : ℕ). u8 r (8 + entries0 r + i)) (entries1 r) };
+    }
+
+-- the body length that kind and counts call for; "4 finish, 5 drain, 6 discard, 7 end of sequence, 8 abandon: empty"
+abbrev pub bodyOk : List ℕ → Bool
+bodyOk r =
+    cond (eqb (kindOf r) 1) (eqb (lengthOf r) 6)
+    (cond (eqb (kindOf r) 2) (eqb (lengthOf r) (12 + 5 * (u8 r 13 + u8 r 14) + 7 * u8 r 15))
+    (cond (eqb (kindOf r) 3) (eqb (lengthOf r) (4 + entries0 r + entries1 r))
+    (leb 4 (kindOf r) && leb (kindOf r) 8 && eqb (lengthOf r) 0)))
+
+-- number 13: "slice not exactly head plus body, body over 512 bytes, unknown kind, or body length not what kind and counts call for"
+unfoldable pub wellFormed : List ℕ → Bool
+wellFormed r = leb 4 (length r) && eqb (length r) (4 + lengthOf r) && leb (lengthOf r) bodyLimit && bodyOk r
