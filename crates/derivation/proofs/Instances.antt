@@ -1,0 +1,57 @@
+-- The paper's two lists are the one list that the code builds, since they differ in candidates and last place alone.
+use mathlib.Core.Path.{_≡_, refl, sym, ap₂, _∙_}
+use mathlib.Core.List.{List}
+use Prim.Native.Nat.{ℕ, _<_, _≤_}
+use lib.Dec.{leb}
+use Rattle.paper.specs.Words.{anyB}
+use Rattle.derivation.specs.declared.rows.RefList.{RefList}
+use Rattle.derivation.proofs.Runs.{count-is}
+use mathlib.Core.Bool.{Bool, true, false}
+use lib.ListN.{length}
+use Rattle.paper.specs.declared.Serial.{Serial}
+use Rattle.paper.specs.State as State
+use Rattle.paper.specs.Records.{Slice}
+use Rattle.paper.specs.RefLists.{list0, list1, lastIsOwn, candidates0, candidates1}
+use Rattle.derivation.specs.Lists.{listOf, candidatesOf, refsIn, blankRefs, CandidateCount, Ready, HoldsList}
+
+module _ (x : State.Refs) (c : Serial) (f : Slice) where
+  pub list0-is : f .ask0 .uses ≡ true → list0 x c f ≡ listOf x c (f .own) false (lastIsOwn f (candidates0 x (f .own) c)) (f .ask0 .active) (f .ask0 .modify) (f .ask0 .entries)
+  unfolding list0 listOf candidatesOf
+  list0-is e = rw e
+
+  pub list1-is : f .ask1 .uses ≡ true → list1 x c f ≡ listOf x c (f .own) true false (f .ask1 .active) (f .ask1 .modify) (f .ask1 .entries)
+  unfolding list1 listOf candidatesOf
+  list1-is e = rw e
+
+pub none-is : refsIn blankRefs ≡ State.noRefs
+unfolding refsIn
+none-is = refl
+
+-- the candidates of each list
+pub candidates-0 : (x : State.Refs) (own : Bool) (c : Serial) → candidatesOf x own false c ≡ candidates0 x own c
+unfolding candidatesOf
+candidates-0 x own c = refl
+
+pub candidates-1 : (x : State.Refs) (own : Bool) (c : Serial) → candidatesOf x own true c ≡ candidates1 x own c
+unfolding candidatesOf
+candidates-1 x own c = refl
+
+-- what a caller has counted and tested makes a list ready to be built
+pub ready : {x : State.Refs} {own : Bool} {n : ℕ} (second : Bool) (c : Serial) (active : ℕ) (modify : Bool) (es : List ℕ) → CandidateCount x own n → 0 < n → 1 ≤ active → active ≤ 16
+    → (modify ≡ true → length es ≡ active) → (modify ≡ true → anyB (λ (e : ℕ). leb n e) es ≡ false) → Ready x c own second active modify es
+ready second c active modify es k some least most bytes below =
+    let e = count-is second c k in
+    record {
+      some = rw (← e) some;
+      least = least;
+      most = most;
+      bytes = bytes;
+      below = λ t. rw (← e) (below t);
+    }
+
+-- a list in an array leaves no choice
+pub one-list : (l r : RefList) (xs : List Serial) → HoldsList l xs → HoldsList r xs → l ≡ r
+one-list l r xs h k = ap₂ (λ (a : List Serial) (n : ℕ). the-list a n) (h .places ∙ sym (k .places)) (h .long ∙ sym (k .long))
+  where
+    the-list : List Serial → ℕ → RefList
+    the-list a n = record { items = a; len = n }

@@ -1,0 +1,79 @@
+-- Reference lists (8.3.4): the run of members in the code, and the list that the paper's two lists are instances of.
+use Prim.Native.Nat.{ℕ, _+_, _-_, _≤_, _<_}
+use mathlib.Core.Path.{_≡_}
+use mathlib.Core.List.{List}
+use mathlib.Core.Bool.{Bool, true, false, cond}
+use lib.ListN.{length, take, drop, getD, set, replicate}
+use lib.Dec.{ltb, leb}
+use Rattle.paper.specs.declared.Serial.{Serial}
+use Rattle.paper.specs.Words.{anyB}
+use Rattle.paper.specs.State as State
+use Rattle.paper.specs.Records.{ListAsk}
+use Rattle.paper.specs.RefLists.{candidates0, candidates1, placed}
+use Rattle.arrays.specs.Pad.{Padded}
+use Rattle.derivation.specs.declared.rows.Refs.{Refs}
+use Rattle.derivation.specs.declared.rows.RefList.{RefList}
+
+abbrev pub blankSerial : Serial
+blankSerial = record { 0 = 0 }
+
+-- one run: Before, After, LtCurr one behind the other; a count past the end of the run counts what is there
+unfoldable pub refsIn : Refs → State.Refs
+refsIn r =
+    record {
+      before = take (r .before) (r .items);
+      after = take (r .after) (drop (r .before) (r .items));
+      ltCurr = take (r .long) (drop (r .before + r .after) (r .items));
+    }
+
+abbrev pub blankRefs : Refs
+blankRefs = record { items = replicate 16 blankSerial; before = 0; after = 0; long = 0 }
+
+abbrev pub HoldsList : RefList → List Serial → Type 0
+HoldsList l xs = Padded 16 blankSerial (l .items) (l .len) xs
+
+abbrev pub noList : RefList
+noList = record { items = replicate 16 blankSerial; len = 0 }
+
+abbrev pub pushed : RefList → Serial → RefList
+pushed l s = record { items = set (l .items) (l .len) s; len = l .len + 1 }
+
+abbrev pub lastSet : RefList → Serial → RefList
+lastSet l s = record { items = set (l .items) (l .len - 1) s; len = l .len }
+
+-- the candidates of list 0, or of list 1 (`second`)
+unfoldable pub candidatesOf : State.Refs → Bool → Bool → Serial → List Serial
+candidatesOf x own second c = cond second (candidates1 x own c) (candidates0 x own c)
+
+-- s is the candidate at i, where behind all candidates stands the current picture
+abbrev pub StandsAt : State.Refs → Bool → Serial → ℕ → Serial → Type 0
+StandsAt x second c i s = (own : Bool) → s ≡ getD (candidatesOf x own second c) i c
+
+abbrev pub askOf : ℕ → Bool → List ℕ → ListAsk
+askOf active modify es = record { uses = true; active = active; modify = modify; entries = es }
+
+-- `last`: the current picture goes into the last active place
+unfoldable pub listOf : State.Refs → Serial → Bool → Bool → Bool → ℕ → Bool → List ℕ → List Serial
+listOf x c own second last active modify es =
+    cond last
+    (set (placed (candidatesOf x own second c) (askOf active modify es)) (active - 1) c)
+    (placed (candidatesOf x own second c) (askOf active modify es))
+
+-- how many candidates there are, for either list
+pub record CandidateCount (x : State.Refs) (own : Bool) (n : ℕ) : Type 0 where
+  pub first : (c : Serial) → n ≡ length (candidates0 x own c)
+  pub other : (c : Serial) → n ≡ length (candidates1 x own c)
+  pub most : n ≤ 17
+
+-- what a list is built from: a candidate at least, 1 to 16 places, and with the modify bit an entry byte for each place,
+-- each below the number of candidates
+pub record Ready (x : State.Refs) (c : Serial) (own second : Bool) (active : ℕ) (modify : Bool) (es : List ℕ) : Type 0 where
+  pub some : 0 < length (candidatesOf x own second c)
+  pub least : 1 ≤ active
+  pub most : active ≤ 16
+  pub bytes : modify ≡ true → length es ≡ active
+  pub below : modify ≡ true → anyB (λ (e : ℕ). leb (length (candidatesOf x own second c)) e) es ≡ false
+
+-- where the candidate at i of list 1 stands in the run, with b members of Before and a of After
+unfoldable pub swappedAt : ℕ → ℕ → ℕ → ℕ
+swappedAt b a i = cond (ltb i a) (b + i) (cond (ltb i (a + b)) (i - a) i)

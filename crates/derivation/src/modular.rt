@@ -1,0 +1,46 @@
+// M = 2^k, the remainder of a POC modulo M, and the range of an i32.
+ghost use mathlib.Core.Path.{_≡_};
+ghost use Prim.Native.Nat.{_^_, min};
+ghost use Rattle.paper.specs.Poc.{modZ};
+ghost use Rattle.derivation.specs.Answers.{narrowOf};
+
+// The number, or 16 where it is more: "more than 16 is taken as 16".
+pub fn at_most_16(n: u8) -> u8
+    ensures { λ r. ⌜ r ≡ min n 16 ⌝ }
+{
+    if n < 16 { n } else { 16 }
+}
+
+// M = 2^k (MaxPicOrderCntLsb, 7.4.3.2.1), a k over 16 taken as 16.
+pub fn modulus(k: u8) -> u32
+    ensures { λ r. ⌜ r ≡ 2 ^ (min k 16) ⌝ }
+{
+    1 << (at_most_16(k) as u32)
+}
+
+// POC mod M by the mask M - 1: "The remainder of a negative POC is the low k bits, never negative."
+pub fn low_bits(k: u8, poc: i32) -> u32
+    ensures { λ r. ⌜ r ≡ modZ poc (2 ^ (min k 16)) ⌝ }
+{
+    let mask = (modulus(k) - 1) as i32;
+    (poc & mask) as u32
+}
+
+// A whole number, if an i32 holds it.
+pub enum Narrow {
+    In(i32),
+    Outside,
+}
+
+// The number as an i32, or that it lies outside.
+pub fn narrowed(z: i64) -> Narrow
+    ensures { λ r. ⌜ r ≡ narrowOf z ⌝ }
+{
+    if z < -2147483648 {
+        return Narrow::Outside;
+    }
+    if z > 2147483647 {
+        return Narrow::Outside;
+    }
+    Narrow::In(z as i32)
+}

@@ -1,0 +1,38 @@
+use mathlib.Core.Path.{refl}
+use native.Mathlib.Numerals.{add-one}
+use lib.ListN.{length-set}
+use native.Mathlib.Omega.{arith}
+use borrow.Author.Needs.{needs}
+use Rattle.wire.proofs.put_u16.Statement.{statement}
+use Rattle.wire.proofs.put_u16.Tie as tie
+use Rattle.wire.proofs.put_u16.Reads as reads
+use Rattle.wire.proofs.put_u16.Lts as lts
+
+cast-d : tie.Need-cast-d
+cast-d c = search needs
+
+slice-write-d : tie.Need-slice-write-d
+slice-write-d c = search needs
+
+cast-d-2 : tie.Need-cast-d-2
+cast-d-2 c = search needs
+
+add-d : tie.Need-add-d
+add-d c = search needs
+
+slice-write-d-2 : tie.Need-slice-write-d-2
+slice-write-d-2 c = simp length-set (omega arith)
+
+add-result : tie.Need-add-result
+add-result c = search needs
+
+same-length : tie.Need-same-length
+same-length c = search needs
+
+returns : tie.Need-returns
+returns c = (refl, simp add-one)
+
+pub put-u16-spec : {M : Type 1} → statement M
+put-u16-spec =
+    tie.close
+    (tie.spec cast-d slice-write-d cast-d-2 add-d slice-write-d-2 add-result same-length returns)

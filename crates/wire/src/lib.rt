@@ -1,0 +1,97 @@
+// "All numbers little-endian": numbers read from and written to lent bytes.
+ghost use mathlib.Core.Path.{_≡_};
+ghost use Prim.Native.Nat.{_+_, _≤_, _<_};
+ghost use lib.ListN.{length};
+ghost use lib.Seq.{sets};
+ghost use mathlib.Core.List.{[], _∷_};
+ghost use mir.Val.{toZ, ofZ};
+ghost use mir.Syntax.{w32};
+ghost use Rattle.paper.specs.Numbers.{u8, u16, u32, i32, bytes16, bytes32};
+
+// The byte at a place, and 0 past the end: nothing is asked of the caller.
+pub fn byte(s: &[u8], at: usize) -> u8
+    ensures { λ r. ⌜ r ≡ u8 (now (s .entry)) at ⌝ }
+{
+    if at < s.len() { s[at] } else { 0 }
+}
+
+// The u16 at a place.
+pub fn u16_at(s: &[u8], at: usize) -> u16
+    requires { ⌜ at < 1000002 ⌝ }
+    ensures { λ r. ⌜ r ≡ u16 (now (s .entry)) at ⌝ }
+{
+    let lo = byte(s, at);
+    let hi = byte(s, at + 1);
+    (lo as u16) + 256 * (hi as u16)
+}
+
+// The u32 at a place.
+pub fn u32_at(s: &[u8], at: usize) -> u32
+    requires { ⌜ at < 1000000 ⌝ }
+    ensures { λ r. ⌜ r ≡ u32 (now (s .entry)) at ⌝ }
+{
+    let lo = u16_at(s, at);
+    let hi = u16_at(s, at + 2);
+    (lo as u32) + 65536 * (hi as u32)
+}
+
+// The number whose two's complement these 32 bits are.
+pub fn signed(x: u32) -> i32
+    ensures { λ r. ⌜ r ≡ toZ w32 x ⌝ }
+{
+    if x < 0x8000_0000 {
+        x as i32
+    } else {
+        -1 - ((0xffff_ffff - x) as i32)
+    }
+}
+
+// The 32 bits of a number's two's complement.
+pub fn bits(x: i32) -> u32
+    ensures { λ r. ⌜ r ≡ ofZ w32 x ⌝ }
+{
+    if x < 0 {
+        0xffff_ffff - ((-1 - x) as u32)
+    } else {
+        x as u32
+    }
+}
+
+// The i32 at a place.
+pub fn i32_at(s: &[u8], at: usize) -> i32
+    requires { ⌜ at < 1000000 ⌝ }
+    ensures { λ r. ⌜ r ≡ i32 (now (s .entry)) at ⌝ }
+{
+    signed(u32_at(s, at))
+}
+
+// Writes one byte, and gives the place behind it.
+pub fn put_u8(d: &mut [u8], at: usize, b: u8) -> usize
+    requires { ⌜ at + 1 ≤ length (now d) ⌝ }
+    ensures { λ r. ⌜ (r ≡ at + 1) × (now (d .exit) ≡ sets (now (d .entry)) at (b ∷ [])) ⌝ }
+{
+    d[at] = b;
+    at + 1
+}
+
+// Writes two bytes, the lowest first, and gives the place behind them.
+pub fn put_u16(d: &mut [u8], at: usize, x: u16) -> usize
+    requires { ⌜ at + 2 ≤ length (now d) ⌝ }
+    ensures { λ r. ⌜ (r ≡ at + 2) × (now (d .exit) ≡ sets (now (d .entry)) at (bytes16 x)) ⌝ }
+{
+    d[at] = (x % 256) as u8;
+    d[at + 1] = (x / 256 % 256) as u8;
+    at + 2
+}
+
+// Writes four bytes, the lowest first, and gives the place behind them.
+pub fn put_u32(d: &mut [u8], at: usize, x: u32) -> usize
+    requires { ⌜ at + 4 ≤ length (now d) ⌝ }
+    ensures { λ r. ⌜ (r ≡ at + 4) × (now (d .exit) ≡ sets (now (d .entry)) at (bytes32 x)) ⌝ }
+{
+    d[at] = (x % 256) as u8;
+    d[at + 1] = (x / 256 % 256) as u8;
+    d[at + 2] = (x / 65536 % 256) as u8;
+    d[at + 3] = (x / 16777216 % 256) as u8;
+    at + 4
+}
