@@ -186,7 +186,7 @@ fn with_last(l: RefList, s: Serial) -> RefList
 }
 
 // A list with no place yet.
-fn no_places() -> RefList
+pub fn no_list() -> RefList
     ensures { λ r. ⌜ r ≡ noList ⌝ }
 {
     let blank = Serial(0);
@@ -208,7 +208,7 @@ fn places(
     ensures { λ r. ⌜ HoldsList r (placed (candidatesOf (refsIn refs) own second c) (askOf active modify (now (entries .entry)))) × (r .len ≡ active) ⌝ }
 {
     let n = candidate_count(refs, own);
-    let mut l = no_places();
+    let mut l = no_list();
     let mut j: usize = 0;
     while j < active {
         l = push(l, candidate(refs, second, c, which(modify, entries, j, n)));

@@ -25,3 +25,5 @@ pub mod InStep
 pub mod Rooms
 pub mod Demand
 pub mod Refusals
+pub mod Vectors
+pub mod Cases
