@@ -25,14 +25,14 @@ abbrev μ-loop : tie.MeasureT-loop
 candidate-count-requires : tie.Need-candidate-count-requires Inv-loop μ-loop
 candidate-count-requires c κs = search needs
 
-no-places-requires : tie.Need-no-places-requires Inv-loop μ-loop
-no-places-requires c κs = search needs
+no-list-requires : tie.Need-no-list-requires Inv-loop μ-loop
+no-list-requires c κs = search needs
 
 loop-holds : tie.Need-loop-holds Inv-loop μ-loop
 loop-holds c =
     let g = c .before .before .before .args in
     let f = at (g .refs) (g .c) (g .own) (g .second) (g .modify) (g .entries .now) (c .before .candidate-count .result) in
-    (omega arith, rw (c .no-places .ensures), rw (c .no-places .ensures) (holds-none f))
+    (omega arith, rw (c .no-list .ensures), rw (c .no-list .ensures) (holds-none f))
 
 which-requires : tie.Need-which-requires Inv-loop μ-loop
 which-requires c κs =
@@ -87,7 +87,7 @@ places-spec =
     Inv-loop
     μ-loop
     candidate-count-requires
-    no-places-requires
+    no-list-requires
     loop-holds
     which-requires
     candidate-requires
