@@ -1,0 +1,3 @@
+pub mod Store
+pub mod Walks
+pub mod Members

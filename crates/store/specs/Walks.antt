@@ -1,0 +1,77 @@
+-- What a walk over the stored pictures looks for or does, as tests and changes of one picture.
+use mathlib.Core.Bool.{Bool, true, false, cond, not, _&&_}
+use mathlib.Core.List.{List}
+use Prim.Native.Nat.{ℕ, _^_, min}
+use lib.Dec.{eqb, leb}
+use lib.IntN.{ℤ, pos}
+use Rattle.paper.specs.Poc.{modZ, eqZ}
+use Rattle.paper.specs.State.{isMarked, isShortTerm}
+use Rattle.paper.specs.Sets.{marked}
+use Rattle.paper.specs.Step.{heldBy}
+use Rattle.paper.specs.Calls.{raised}
+use Rattle.paper.specs.Output.{Moved, leave, stay, still, handOut, due, done, inUse}
+use Rattle.paper.specs.declared.Serial.{Serial}
+use Rattle.paper.specs.declared.Surface.{Surface}
+use Rattle.paper.specs.declared.Mark.the-variants.{Unmarked}
+use Rattle.paper.specs.declared.Picture.{Picture}
+use Rattle.store.specs.declared.pictures.Sought.{Sought}
+use Rattle.store.specs.declared.pictures.Sought.the-variants.{AnyAt, LowAt, ShortAt, LateBy, HeldBy}
+use Rattle.store.specs.declared.pictures.Change.{Change}
+use Rattle.store.specs.declared.pictures.Change.the-variants.{Same, Unmark, Raise, Quiet}
+use Rattle.store.specs.declared.output.Rule.{Rule}
+use Rattle.store.specs.declared.output.Rule.the-variants.{All, Due}
+
+-- "any mark and equal POC", "or equal POC mod M", "short-term .. of equal POC"
+abbrev pub anyAt : ℤ → Picture → Bool
+anyAt z p = isMarked (p .mark) && eqZ (p .poc) z
+
+abbrev pub lowAt : ℕ → ℤ → Picture → Bool
+lowAt M z p = isMarked (p .mark) && eqZ (pos (modZ (p .poc) M)) z
+
+abbrev pub shortAt : ℤ → Picture → Bool
+shortAt z p = isShortTerm (p .mark) && eqZ (p .poc) z
+
+-- "a waiting picture's count ≥ latency"
+abbrev pub lateBy : ℕ → Picture → Bool
+lateBy n p = p .waiting && leb n (p .count)
+
+abbrev pub passing : Sought → Picture → Bool
+passing (AnyAt z) = anyAt z
+passing (LowAt k z) = lowAt (2 ^ (min k 16)) z
+passing (ShortAt z) = shortAt z
+passing (LateBy n) = lateBy n
+passing (HeldBy x) = heldBy x
+
+abbrev pub changing : Change → Picture → Picture
+changing Same p = p
+changing Unmark p = marked Unmarked p
+changing Raise p = raised p
+changing (Quiet n) p = done (n .0) p
+
+-- another picture than that of serial n
+abbrev pub other : Serial → Picture → Bool
+other n q = not (eqb (n .0) (q .serial .0))
+
+abbrev pub serialOf : Picture → Serial
+serialOf p = p .serial
+
+abbrev pub surfaceOf : Picture → Surface
+surfaceOf p = p .surface
+
+abbrev pub unused : Picture → Bool
+unused p = not (inUse p)
+
+-- the hand-outs of the paper with the list last, as `andThen` takes them
+abbrev pub leaving : Picture → List Picture → Moved
+leaving p ps = leave ps p
+
+abbrev pub staying : Picture → List Picture → Moved
+staying p ps = stay ps p
+
+-- one turn of "hand out while one is due and one waits"
+abbrev pub turnBy : (List Picture → Bool) → List Picture → Moved
+turnBy f qs = cond (f qs) (handOut false qs) (still qs)
+
+abbrev pub turning : Rule → List Picture → Moved
+turning All = handOut true
+turning (Due l b) = turnBy (due b l)

@@ -1,0 +1,227 @@
+// One picture: its tests and its changes.
+ghost use mathlib.Core.Path.{_≡_};
+ghost use mathlib.Core.Bool.{cond};
+ghost use Prim.Native.Nat.{_+_, _^_, min};
+ghost use lib.Dec.{ltb};
+ghost use Rattle.paper.specs.Poc.{eqZ};
+ghost use Rattle.paper.specs.State.{isMarked, isShortTerm, countLimit};
+ghost use Rattle.paper.specs.Numbers.{sameSerial};
+ghost use Rattle.paper.specs.Step.{heldBy};
+ghost use Rattle.paper.specs.Sets.{marked};
+ghost use Rattle.paper.specs.Calls.{raised, stored};
+ghost use Rattle.paper.specs.Output.{shown, done, inUse};
+ghost use Rattle.store.specs.Walks.{anyAt, lowAt, shortAt, lateBy, passing, changing, other};
+use derivation::modular::low_bits;
+use paper::Current;
+use paper::Mark;
+use paper::Picture;
+use paper::Serial;
+use paper::Shown;
+use paper::Surface;
+
+// What a walk over the stored pictures looks for: any mark and this POC; any mark and a POC of these low k bits; a short-term
+// picture of this POC; one that waits with a count of so much; one that holds this surface.
+pub enum Sought {
+    AnyAt(i32),
+    LowAt(u8, i32),
+    ShortAt(i32),
+    LateBy(u32),
+    HeldBy(Surface),
+}
+
+// What a walk does to every stored picture: nothing; its mark goes; its count rises; it no longer waits if this is its serial.
+pub enum Change {
+    Same,
+    Unmark,
+    Raise,
+    Quiet(Serial),
+}
+
+// Whether a mark is one for reference.
+pub fn is_marked(m: Mark) -> bool
+    ensures { λ r. ⌜ r ≡ isMarked m ⌝ }
+{
+    match m {
+        Mark::Unmarked => false,
+        Mark::ShortTerm => true,
+        Mark::LongTerm => true,
+    }
+}
+
+// Whether a mark is "used for short-term reference".
+pub fn is_short_term(m: Mark) -> bool
+    ensures { λ r. ⌜ r ≡ isShortTerm m ⌝ }
+{
+    match m {
+        Mark::Unmarked => false,
+        Mark::ShortTerm => true,
+        Mark::LongTerm => false,
+    }
+}
+
+// Whether two POCs are equal.
+pub fn same_poc(a: i32, b: i32) -> bool
+    ensures { λ r. ⌜ r ≡ eqZ a b ⌝ }
+{
+    a == b
+}
+
+// Whether p has any mark and this POC.
+fn is_any_at(p: Picture, poc: i32) -> bool
+    ensures { λ r. ⌜ r ≡ anyAt poc p ⌝ }
+{
+    let m = p.mark;
+    is_marked(m) & same_poc(p.poc, poc)
+}
+
+// Whether p has any mark and a POC of these low k bits.
+fn is_low_at(p: Picture, k: u8, low: i32) -> bool
+    ensures { λ r. ⌜ r ≡ lowAt (2 ^ (min k 16)) low p ⌝ }
+{
+    let m = p.mark;
+    let bits = low_bits(k, p.poc) as i32;
+    is_marked(m) & same_poc(bits, low)
+}
+
+// Whether p is a short-term picture of this POC.
+fn is_short_at(p: Picture, poc: i32) -> bool
+    ensures { λ r. ⌜ r ≡ shortAt poc p ⌝ }
+{
+    let m = p.mark;
+    is_short_term(m) & same_poc(p.poc, poc)
+}
+
+// Whether p waits and its count has reached n.
+fn is_late_by(p: Picture, n: u32) -> bool
+    ensures { λ r. ⌜ r ≡ lateBy n p ⌝ }
+{
+    p.waiting & (n <= p.count)
+}
+
+// Whether p holds the surface x.
+fn is_held_by(p: Picture, x: Surface) -> bool
+    ensures { λ r. ⌜ r ≡ heldBy x p ⌝ }
+{
+    let y = p.surface;
+    x.0 == y.0
+}
+
+// Whether p is what a walk looks for.
+pub fn passes(t: Sought, p: Picture) -> bool
+    ensures { λ r. ⌜ r ≡ passing t p ⌝ }
+{
+    match t {
+        Sought::AnyAt(poc) => is_any_at(p, poc),
+        Sought::LowAt(k, low) => is_low_at(p, k, low),
+        Sought::ShortAt(poc) => is_short_at(p, poc),
+        Sought::LateBy(n) => is_late_by(p, n),
+        Sought::HeldBy(x) => is_held_by(p, x),
+    }
+}
+
+// Whether two serials name one picture.
+pub fn same_serial(a: Serial, b: Serial) -> bool
+    ensures { λ r. ⌜ r ≡ sameSerial a b ⌝ }
+{
+    a.0 == b.0
+}
+
+// Whether q is another picture than that of serial n.
+pub fn is_other(n: Serial, q: Picture) -> bool
+    ensures { λ r. ⌜ r ≡ other n q ⌝ }
+{
+    let m = q.serial;
+    !same_serial(n, m)
+}
+
+// Whether p waits or is marked: a removal leaves it (C.5.2.2).
+pub fn in_use(p: Picture) -> bool
+    ensures { λ r. ⌜ r ≡ inUse p ⌝ }
+{
+    let m = p.mark;
+    p.waiting | is_marked(m)
+}
+
+// As a tail names a picture.
+pub fn as_shown(p: Picture) -> Shown
+    ensures { λ r. ⌜ r ≡ shown p ⌝ }
+{
+    let serial = p.serial;
+    let surface = p.surface;
+    Shown {
+        serial,
+        surface,
+        poc: p.poc,
+    }
+}
+
+// The current picture as it is stored: short-term, count 0, waiting if its output flag is 1 (C.5.2.3).
+pub fn picture_of(c: Current) -> Picture
+    ensures { λ r. ⌜ r ≡ stored c ⌝ }
+{
+    let serial = c.serial;
+    let surface = c.surface;
+    Picture {
+        serial,
+        surface,
+        poc: c.poc,
+        mark: Mark::ShortTerm,
+        waiting: c.output,
+        count: 0,
+    }
+}
+
+// The picture with another mark.
+pub fn with_mark(p: Picture, m: Mark) -> Picture
+    ensures { λ r. ⌜ r ≡ marked m p ⌝ }
+{
+    let serial = p.serial;
+    let surface = p.surface;
+    Picture {
+        serial,
+        surface,
+        poc: p.poc,
+        mark: m,
+        waiting: p.waiting,
+        count: p.count,
+    }
+}
+
+// The next count: one more, stopping at 2,147,483,647.
+fn next_count(n: u32) -> u32
+    ensures { λ r. ⌜ r ≡ cond (ltb n countLimit) (n + 1) countLimit ⌝ }
+{
+    if n < 2147483647 { n + 1 } else { 2147483647 }
+}
+
+// The picture with its count risen.
+fn with_count(p: Picture) -> Picture
+    ensures { λ r. ⌜ r ≡ raised p ⌝ }
+{
+    let next = next_count(p.count);
+    let mut q = p;
+    q.count = next;
+    q
+}
+
+// The picture, no longer waiting if its serial is n.
+fn done_with(n: Serial, p: Picture) -> Picture
+    ensures { λ r. ⌜ r ≡ done (n .0) p ⌝ }
+{
+    let still = is_other(n, p);
+    let mut q = p;
+    q.waiting = p.waiting & still;
+    q
+}
+
+// What a walk makes of a picture.
+pub fn changed(p: Picture, c: Change) -> Picture
+    ensures { λ r. ⌜ r ≡ changing c p ⌝ }
+{
+    match c {
+        Change::Same => p,
+        Change::Unmark => with_mark(p, Mark::Unmarked),
+        Change::Raise => with_count(p),
+        Change::Quiet(n) => done_with(n, p),
+    }
+}
