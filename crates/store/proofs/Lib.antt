@@ -4,3 +4,4 @@ pub mod Rooms
 pub mod Searches
 pub mod Marks
 pub mod Whole
+pub mod Views

@@ -12,7 +12,7 @@ use Rattle.paper.specs.Sets.{Sets}
 use Rattle.paper.specs.declared.Picture.{Picture}
 use Rattle.paper.specs.declared.Limits.{Limits}
 use Rattle.store.specs.Store.{view, HoldsMoved}
-use Rattle.store.specs.Members.{HoldsDerived}
+use Rattle.store.specs.Sets.{HoldsDerived}
 use Rattle.store.specs.declared.Outcome.{Outcome}
 use Rattle.store.specs.declared.Derived.{Derived}
 

@@ -1,3 +1,4 @@
 pub mod Store
+pub mod Sets
 pub mod Walks
 pub mod Members

@@ -36,21 +36,21 @@ pub fn normal(s: Store) -> Store
 }
 
 // The pictures, of which the one of this serial no longer waits.
-pub fn quieted(s: Store, serial: Serial) -> Store
+pub(crate) fn quieted(s: Store, serial: Serial) -> Store
     ensures { λ r. ⌜ Holds r (map (done (serial .0)) (view s)) ⌝ }
 {
     change_all(s, Change::Quiet(serial))
 }
 
 // Every count risen by 1 (finish).
-pub fn raise_counts(s: Store) -> Store
+pub(crate) fn raise_counts(s: Store) -> Store
     ensures { λ r. ⌜ Holds r (map raised (view s)) ⌝ }
 {
     change_all(s, Change::Raise)
 }
 
 // No picture marked, if so told: an IRAP picture with NoRaslOutputFlag unmarks all (8.3.2).
-pub fn unmarked_if(s: Store, unmark: bool) -> Store
+pub(crate) fn unmarked_if(s: Store, unmark: bool) -> Store
     ensures { λ r. ⌜ Holds r (unmarkedIf unmark (view s)) ⌝ }
 {
     if unmark {

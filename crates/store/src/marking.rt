@@ -28,7 +28,7 @@ fn mark_one(p: Picture, a: Run, b: Run, there: bool, m: Mark) -> Picture
 }
 
 // Every picture that is in one of two runs (`there`), or every other one, gets the mark m.
-pub fn mark_where(s: Store, a: Run, b: Run, there: bool, m: Mark) -> Store
+pub(crate) fn mark_where(s: Store, a: Run, b: Run, there: bool, m: Mark) -> Store
     requires { ⌜ HoldsRun a (runIn a) ⌝ }
     requires { ⌜ HoldsRun b (runIn b) ⌝ }
     ensures { λ r. ⌜ Holds r (map (marking there m (runIn a ++ runIn b)) (view s)) ⌝ }

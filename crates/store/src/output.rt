@@ -143,7 +143,7 @@ fn others(s: Store, serial: Serial) -> Store
 }
 
 // The store in normal form, and an empty tail.
-pub fn unmoved(s: Store) -> Outcome
+pub(crate) fn unmoved(s: Store) -> Outcome
     ensures { λ r. ⌜ HoldsMoved r (still (view s)) ⌝ }
 {
     let store = normal(s);
@@ -268,7 +268,7 @@ fn turn_after(o: Outcome, rule: Rule) -> Outcome
 }
 
 // As many turns as pictures are stored: enough, since a turn hands one out or does nothing.
-pub fn turns_after(o: Outcome, rule: Rule) -> Outcome
+pub(crate) fn turns_after(o: Outcome, rule: Rule) -> Outcome
     requires { ⌜ Roomy o ⌝ }
     ensures { λ r. ⌜ HoldsMoved r (andThen (movedIn o) (turns (length (view (o .store))) (turning rule))) × Roomy r ⌝ }
 {
@@ -284,7 +284,7 @@ pub fn turns_after(o: Outcome, rule: Rule) -> Outcome
 }
 
 // After what happened, pictures are handed out while one is due and one waits.
-pub fn bump_as_needed_after(o: Outcome, l: Limits, buffered: bool) -> Outcome
+pub(crate) fn bump_as_needed_after(o: Outcome, l: Limits, buffered: bool) -> Outcome
     requires { ⌜ Roomy o ⌝ }
     ensures { λ r. ⌜ HoldsMoved r (andThen (movedIn o) (handWhile (due buffered l))) ⌝ }
 {

@@ -19,6 +19,9 @@ use paper::Serial;
 use paper::Shown;
 use paper::Surface;
 
+// Where a count stops rising.
+const COUNT_LIMIT: u32 = 2147483647;
+
 // What a walk over the stored pictures looks for: any mark and this POC; any mark and a POC of these low k bits; a short-term
 // picture of this POC; one that waits with a count of so much; one that holds this surface.
 pub enum Sought {
@@ -38,7 +41,7 @@ pub enum Change {
 }
 
 // Whether a mark is one for reference.
-pub fn is_marked(m: Mark) -> bool
+pub(crate) fn is_marked(m: Mark) -> bool
     ensures { λ r. ⌜ r ≡ isMarked m ⌝ }
 {
     match m {
@@ -49,7 +52,7 @@ pub fn is_marked(m: Mark) -> bool
 }
 
 // Whether a mark is "used for short-term reference".
-pub fn is_short_term(m: Mark) -> bool
+pub(crate) fn is_short_term(m: Mark) -> bool
     ensures { λ r. ⌜ r ≡ isShortTerm m ⌝ }
 {
     match m {
@@ -60,7 +63,7 @@ pub fn is_short_term(m: Mark) -> bool
 }
 
 // Whether two POCs are equal.
-pub fn same_poc(a: i32, b: i32) -> bool
+pub(crate) fn same_poc(a: i32, b: i32) -> bool
     ensures { λ r. ⌜ r ≡ eqZ a b ⌝ }
 {
     a == b
@@ -107,7 +110,7 @@ fn is_held_by(p: Picture, x: Surface) -> bool
 }
 
 // Whether p is what a walk looks for.
-pub fn passes(t: Sought, p: Picture) -> bool
+pub(crate) fn passes(t: Sought, p: Picture) -> bool
     ensures { λ r. ⌜ r ≡ passing t p ⌝ }
 {
     match t {
@@ -120,14 +123,14 @@ pub fn passes(t: Sought, p: Picture) -> bool
 }
 
 // Whether two serials name one picture.
-pub fn same_serial(a: Serial, b: Serial) -> bool
+pub(crate) fn same_serial(a: Serial, b: Serial) -> bool
     ensures { λ r. ⌜ r ≡ sameSerial a b ⌝ }
 {
     a.0 == b.0
 }
 
 // Whether q is another picture than that of serial n.
-pub fn is_other(n: Serial, q: Picture) -> bool
+pub(crate) fn is_other(n: Serial, q: Picture) -> bool
     ensures { λ r. ⌜ r ≡ other n q ⌝ }
 {
     let m = q.serial;
@@ -135,7 +138,7 @@ pub fn is_other(n: Serial, q: Picture) -> bool
 }
 
 // Whether p waits or is marked: a removal leaves it (C.5.2.2).
-pub fn in_use(p: Picture) -> bool
+pub(crate) fn in_use(p: Picture) -> bool
     ensures { λ r. ⌜ r ≡ inUse p ⌝ }
 {
     let m = p.mark;
@@ -143,7 +146,7 @@ pub fn in_use(p: Picture) -> bool
 }
 
 // As a tail names a picture.
-pub fn as_shown(p: Picture) -> Shown
+pub(crate) fn as_shown(p: Picture) -> Shown
     ensures { λ r. ⌜ r ≡ shown p ⌝ }
 {
     let serial = p.serial;
@@ -156,7 +159,7 @@ pub fn as_shown(p: Picture) -> Shown
 }
 
 // The current picture as it is stored: short-term, count 0, waiting if its output flag is 1 (C.5.2.3).
-pub fn picture_of(c: Current) -> Picture
+pub(crate) fn picture_of(c: Current) -> Picture
     ensures { λ r. ⌜ r ≡ stored c ⌝ }
 {
     let serial = c.serial;
@@ -172,7 +175,7 @@ pub fn picture_of(c: Current) -> Picture
 }
 
 // The picture with another mark.
-pub fn with_mark(p: Picture, m: Mark) -> Picture
+pub(crate) fn with_mark(p: Picture, m: Mark) -> Picture
     ensures { λ r. ⌜ r ≡ marked m p ⌝ }
 {
     let serial = p.serial;
@@ -191,7 +194,7 @@ pub fn with_mark(p: Picture, m: Mark) -> Picture
 fn next_count(n: u32) -> u32
     ensures { λ r. ⌜ r ≡ cond (ltb n countLimit) (n + 1) countLimit ⌝ }
 {
-    if n < 2147483647 { n + 1 } else { 2147483647 }
+    if n < COUNT_LIMIT { n + 1 } else { COUNT_LIMIT }
 }
 
 // The picture with its count risen.
@@ -215,7 +218,7 @@ fn done_with(n: Serial, p: Picture) -> Picture
 }
 
 // What a walk makes of a picture.
-pub fn changed(p: Picture, c: Change) -> Picture
+pub(crate) fn changed(p: Picture, c: Change) -> Picture
     ensures { λ r. ⌜ r ≡ changing c p ⌝ }
 {
     match c {

@@ -41,7 +41,7 @@ pub fn is_full(s: Store, l: Limits) -> bool
 }
 
 // One picture more.
-pub fn push(s: Store, p: Picture) -> Store
+pub(crate) fn push(s: Store, p: Picture) -> Store
     requires { ⌜ Good s ⌝ }
     requires { ⌜ s .len < 16 ⌝ }
     ensures { λ r. ⌜ Holds r (view s ++ (p ∷ [])) ⌝ }
@@ -54,7 +54,7 @@ pub fn push(s: Store, p: Picture) -> Store
 }
 
 // One picture more is handed out.
-pub fn push_shown(s: Handed, p: Shown) -> Handed
+pub(crate) fn push_shown(s: Handed, p: Shown) -> Handed
     requires { ⌜ HoldsHanded s (handedIn s) ⌝ }
     requires { ⌜ s .len < 16 ⌝ }
     ensures { λ r. ⌜ HoldsHanded r (handedIn s ++ (p ∷ [])) ⌝ }
@@ -67,7 +67,7 @@ pub fn push_shown(s: Handed, p: Shown) -> Handed
 }
 
 // One serial more is thrown away.
-pub fn push_serial(s: Thrown, n: Serial) -> Thrown
+pub(crate) fn push_serial(s: Thrown, n: Serial) -> Thrown
     requires { ⌜ HoldsThrown s (thrownIn s) ⌝ }
     requires { ⌜ s .len < 17 ⌝ }
     ensures { λ r. ⌜ HoldsThrown r (thrownIn s ++ (n ∷ [])) ⌝ }
@@ -80,7 +80,7 @@ pub fn push_serial(s: Thrown, n: Serial) -> Thrown
 }
 
 // One surface more is released.
-pub fn push_surface(s: Released, x: Surface) -> Released
+pub(crate) fn push_surface(s: Released, x: Surface) -> Released
     requires { ⌜ HoldsReleased s (releasedIn s) ⌝ }
     requires { ⌜ s .len < 17 ⌝ }
     ensures { λ r. ⌜ HoldsReleased r (releasedIn s ++ (x ∷ [])) ⌝ }

@@ -77,7 +77,7 @@ fn release_all(s: Released, store: Store) -> Released
 }
 
 // After what happened, the store is cleared.
-pub fn clear_after(o: Outcome) -> Outcome
+pub(crate) fn clear_after(o: Outcome) -> Outcome
     requires { ⌜ Roomy o ⌝ }
     ensures { λ r. ⌜ HoldsMoved r (andThen (movedIn o) cleared) ⌝ }
 {
@@ -105,7 +105,7 @@ pub fn clear(s: Store) -> Outcome
 }
 
 // After what happened, the store is emptied.
-pub fn empty_out_after(o: Outcome) -> Outcome
+pub(crate) fn empty_out_after(o: Outcome) -> Outcome
     requires { ⌜ Roomy o ⌝ }
     ensures { λ r. ⌜ HoldsMoved r (andThen (movedIn o) emptied) ⌝ }
 {

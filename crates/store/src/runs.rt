@@ -26,7 +26,7 @@ impl Run {
 }
 
 // One member more.
-pub fn push_member(s: Run, n: Serial) -> Run
+pub(crate) fn push_member(s: Run, n: Serial) -> Run
     requires { ⌜ HoldsRun s (runIn s) ⌝ }
     requires { ⌜ s .len < 16 ⌝ }
     ensures { λ r. ⌜ HoldsRun r (runIn s ++ (n ∷ [])) ⌝ }
@@ -56,7 +56,7 @@ fn in_run(n: Serial, a: Run) -> bool
 }
 
 // Whether a serial is in one of two runs.
-pub fn is_in(n: Serial, a: Run, b: Run) -> bool
+pub(crate) fn is_in(n: Serial, a: Run, b: Run) -> bool
     requires { ⌜ HoldsRun a (runIn a) ⌝ }
     requires { ⌜ HoldsRun b (runIn b) ⌝ }
     ensures { λ r. ⌜ r ≡ isIn n (runIn a ++ runIn b) ⌝ }
@@ -65,7 +65,7 @@ pub fn is_in(n: Serial, a: Run, b: Run) -> bool
 }
 
 // The members of b join those of a.
-pub fn join_runs(a: Run, b: Run) -> Run
+pub(crate) fn join_runs(a: Run, b: Run) -> Run
     requires { ⌜ HoldsRun a (runIn a) ⌝ }
     requires { ⌜ HoldsRun b (runIn b) ⌝ }
     requires { ⌜ a .len + b .len ≤ 16 ⌝ }

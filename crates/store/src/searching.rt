@@ -32,7 +32,7 @@ fn find_first(s: Store, t: Sought) -> Serial
 }
 
 // Whether a picture is what the walk looks for.
-pub fn has_any(s: Store, t: Sought) -> bool
+pub(crate) fn has_any(s: Store, t: Sought) -> bool
     ensures { λ r. ⌜ r ≡ anyB (passing t) (view s) ⌝ }
 {
     let n = used_places(s);

@@ -7,7 +7,8 @@ use Rattle.paper.specs.Sets.{longMarked, longSet, marksOf, setsOf, shortSet, un
 use Rattle.paper.specs.Words.{keep}
 use Rattle.paper.specs.declared.Picture.{Picture}
 use Rattle.store.proofs.Marks.{long-marked, mark-only}
-use Rattle.store.specs.Members.{HoldsLong, HoldsRefs, HoldsRest, HoldsRun, runIn, wishesIn}
+use Rattle.store.specs.Members.{HoldsLong, HoldsRun, runIn}
+use Rattle.store.specs.Sets.{HoldsRefs, HoldsRest, wishesIn}
 use Rattle.store.specs.Store.{Holds, view}
 use Rattle.paper.specs.Sets.{Sets as FiveSets}
 use Rattle.store.proofs.setting.derive_and_mark_rps.Statement.{statement}

@@ -8,7 +8,8 @@ use Rattle.arrays.proofs.Pad.{is-good, is-view}
 use Rattle.paper.specs.Sets.{shortSet, unusedBy}
 use Rattle.paper.specs.Words.{keep}
 use Rattle.store.proofs.Marks.{repad, short-append}
-use Rattle.store.specs.Members.{runIn, wishesIn}
+use Rattle.store.specs.Members.{runIn}
+use Rattle.store.specs.Sets.{wishesIn}
 use Rattle.store.specs.Store.{view}
 use Rattle.store.proofs.setting.find_rest.Statement.{statement}
 use Rattle.store.proofs.setting.find_rest.Tie as tie

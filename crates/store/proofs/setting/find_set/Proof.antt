@@ -8,7 +8,8 @@ use lib.Seq.{getD-drop}
 use Rattle.arrays.proofs.Pad.{is-good, is-view}
 use Rattle.paper.specs.Words.{keep}
 use Rattle.store.proofs.Walks.{behind, sift-more, sift-short}
-use Rattle.store.specs.Members.{HoldsRun, answer, answers, flagged, noWish, runIn}
+use Rattle.store.specs.Members.{HoldsRun, answer, answers, flagged, runIn}
+use Rattle.store.specs.Sets.{noWish}
 use Rattle.store.specs.Store.{view}
 use Rattle.store.proofs.setting.find_set.Statement.{statement}
 use Rattle.store.proofs.setting.find_set.Tie as tie
