@@ -1,0 +1,7 @@
+pub mod Saying
+pub mod Ways
+pub mod Bytes
+pub mod Entries
+pub mod Slicing
+pub mod Begins
+pub mod Steps

@@ -1,0 +1,116 @@
+-- One call: number 14, number 13, or what the record's kind says, as the paper's `stepOf` has them.
+use Prim.Native.Nat.{ℕ, suc, _+_, _≤_, _<_}
+use mathlib.Core.Path.{_≡_, refl, sym, ap, _∙_, subst}
+use mathlib.Core.List.{List, [], _∷_, _++_}
+use mathlib.Core.Bool.{Bool, true, false, cond, _&&_}
+use native.Mathlib.Omega.{arith}
+use lib.Dec.{eqb, ltb, leb}
+use lib.ListN.{length, drop}
+use borrow.Author.Tests.{lt-ltb, le-ltb, eq-eqb, ne-eqb, eqb-true, eqb-false, leb-true}
+use Rattle.wire.specs.Bytes.{over}
+use Rattle.paper.specs.Records.{kindOf, lengthOf, bodyOk, wellFormed, limitsOf, fieldsOf, sliceOf}
+use Rattle.paper.specs.State as P
+use Rattle.paper.specs.Replies.{bytesOf}
+use Rattle.paper.specs.Step.{Decided, Result, refused, configureOf, beginOf, listsOf, finishOf, drainOf, discardOf, endOf, abandonOf, byKind, decideOf, stepOf}
+use Rattle.paper.proofs.Bools.{left, right, split, not-both}
+use Rattle.session.specs.declared.Session.{Session}
+use Rattle.session.specs.declared.Answer.{Answer}
+use Rattle.session.specs.View.{view, nextOf}
+use Rattle.session.specs.Parts.{kindIn}
+use Rattle.session.specs.Said.{Says, WellFormed, Permitted}
+
+-- ---- the kind that was read
+
+-- a well-formed record is of a kind from 1 to 8
+known-kind : (r : List ℕ) → wellFormed r ≡ true → (1 ≤ kindOf r) × (kindOf r ≤ 8)
+unfolding wellFormed
+known-kind r h =
+    let b : bodyOk r ≡ true = right (leb 4 (length r) && eqb (length r) (4 + lengthOf r) && leb (lengthOf r) 512) _ h in
+    split (eqb (kindOf r) 1) (λ e. let k = eqb-true (kindOf r) 1 e in (omega arith, omega arith)) (λ e1.
+    split (eqb (kindOf r) 2) (λ e. let k = eqb-true (kindOf r) 2 e in (omega arith, omega arith)) (λ e2.
+    split (eqb (kindOf r) 3) (λ e. let k = eqb-true (kindOf r) 3 e in (omega arith, omega arith)) (λ e3.
+    let c : (leb 4 (kindOf r) && leb (kindOf r) 8 && eqb (lengthOf r) 0) ≡ true = rw (e1, e2, e3) at b in
+    let d : (leb 4 (kindOf r) && leb (kindOf r) 8) ≡ true = left (leb 4 (kindOf r) && leb (kindOf r) 8) _ c in
+    (omega (arith, leb-true 4 (kindOf r) (left (leb 4 (kindOf r)) _ d)), leb-true (kindOf r) 8 (right (leb 4 (kindOf r)) _ d)))))
+
+pub formed : {n : ℕ} (k : ℕ) (r : List ℕ) → n ≡ kindIn r → n ≡ suc k → WellFormed (suc k) r
+unfolding kindIn
+formed k r e f =
+    split (wellFormed r)
+    (λ h. record { formed = h; kind = sym (ap (λ (b : Bool). cond b (kindOf r) 0) h) ∙ sym e ∙ f })
+    (λ h. absurd (let z : 0 ≡ suc k = sym (ap (λ (b : Bool). cond b (kindOf r) 0) h) ∙ sym e ∙ f in omega arith))
+
+past : (n k : ℕ) → k ≤ n → (n ≡ k → ⊥) → k + 1 ≤ n
+past n k h f = omega arith
+
+too-far : (n : ℕ) → 9 ≤ n → n ≤ 8 → ⊥
+too-far n a b = omega arith
+
+pub malformed : {n : ℕ} (r : List ℕ) → n ≡ kindIn r → (n ≡ 1 → ⊥) → (n ≡ 2 → ⊥) → (n ≡ 3 → ⊥) → (n ≡ 4 → ⊥) → (n ≡ 5 → ⊥) → (n ≡ 6 → ⊥) → (n ≡ 7 → ⊥) → (n ≡ 8 → ⊥) → wellFormed r ≡ false
+unfolding kindIn
+malformed {n} r e n1 n2 n3 n4 n5 n6 n7 n8 =
+    split (wellFormed r)
+    (λ h.
+    let k = known-kind r h in
+    let z : n ≡ kindOf r = e ∙ ap (λ (b : Bool). cond b (kindOf r) 0) h in
+    let a : 1 ≤ n = subst (λ (x : ℕ). 1 ≤ x) (sym z) (k .0) in
+    let b : n ≤ 8 = subst (λ (x : ℕ). x ≤ 8) (sym z) (k .1) in
+    absurd (too-far n (past n 8 (past n 7 (past n 6 (past n 5 (past n 4 (past n 3 (past n 2 (past n 1 a n1) n2) n3) n4) n5) n6) n7) n8) b))
+    (λ h. h)
+
+-- ---- what is decided, by the kind
+
+module _ (v : P.Session) (r : List ℕ) where
+  pub decides-13 : wellFormed r ≡ false → decideOf v r ≡ refused v 511 13
+  unfolding decideOf
+  decides-13 e = ap (λ (b : Bool). cond b (byKind v r) (refused v 511 13)) e
+
+  by-kind : {k : ℕ} → WellFormed k r → decideOf v r ≡ byKind v r
+  unfolding decideOf
+  by-kind w = ap (λ (b : Bool). cond b (byKind v r) (refused v 511 13)) (w .formed)
+
+  -- the arm of kind n, with the record's kind in its place
+  abbrev arm : ℕ → Decided
+  arm n =
+      cond (eqb n 1) (configureOf v (limitsOf r))
+      (cond (eqb n 2) (beginOf v (fieldsOf r))
+      (cond (eqb n 3) (listsOf v (sliceOf r))
+      (cond (eqb n 4) (finishOf v)
+      (cond (eqb n 5) (drainOf v)
+      (cond (eqb n 6) (discardOf v)
+      (cond (eqb n 7) (endOf v)
+      (abandonOf v)))))))
+
+  pub decides : (k : ℕ) → WellFormed k r → decideOf v r ≡ arm k
+  unfolding byKind
+  decides k w = by-kind w ∙ ap arm (w .kind)
+
+-- ---- the whole call
+
+resultOf : Decided → Result
+resultOf d = record { number = d .number; bytes = bytesOf (d .reply); next = d .next }
+
+abbrev answerFrom : Session → ℕ → Result → Answer
+answerFrom s k x = record { number = x .number; len = length (x .bytes); next = cond (eqb (x .number) 0) (nextOf s k (x .next)) s }
+
+step-is : (v : P.Session) (r : List ℕ) (room : ℕ) (d : Decided) → 512 ≤ room → decideOf v r ≡ d → stepOf v r room ≡ resultOf d
+unfolding stepOf resultOf
+step-is v r room d h e = rw (le-ltb room 512 h) (ap (λ (x : Decided). record { number = x .number; bytes = bytesOf (x .reply); next = x .next }) e)
+
+pub permitted : {s : Session} {r before : List ℕ} {a : Answer} {after : List ℕ} (k : ℕ) (d : Decided) → 512 ≤ length before → decideOf (view s) r ≡ d → kindOf r ≡ k → Says s k d before a after → Permitted s r before a after
+unfolding resultOf
+permitted {s} {r} {before} {a} {after} k d room e f h =
+    let x = step-is (view s) r (length before) d room e in
+    record {
+      answer = h .answer ∙ ap (λ (n : ℕ). answerFrom s n (resultOf d)) (sym f) ∙ ap (answerFrom s (kindOf r)) (sym x);
+      bytes = h .bytes ∙ ap (λ (y : Result). over (y .bytes) before) (sym x);
+    }
+
+pub no-room : {s : Session} {r before : List ℕ} {n : ℕ} → n ≡ 14 → length before < 512 → Permitted s r before (record { number = n; len = 0; next = s }) before
+unfolding stepOf over
+no-room {s} {r} {before} e h =
+    let x : stepOf (view s) r (length before) ≡ record { number = 14; bytes = []; next = view s } = rw (lt-ltb (length before) 512 h) in
+    record {
+      answer = ap (λ (m : ℕ). record { number = m; len = 0; next = s }) e ∙ ap (answerFrom s (kindOf r)) (sym x);
+      bytes = ap (λ (y : Result). over (y .bytes) before) (sym x);
+    }

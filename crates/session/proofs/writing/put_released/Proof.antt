@@ -1,0 +1,91 @@
+-- Each turn writes one number of four bytes behind those before it.
+use borrow.Author.Needs.{needs}
+use mathlib.Core.Path.{_≡_, _∙_}
+use Prim.Native.Nat.{_+_, _-_, _*_, _≤_}
+use native.Mathlib.Omega.{arith}
+use lib.Seq.{sets}
+use lib.ListN.{length, take}
+use Rattle.paper.specs.declared.Surface.{Surface}
+use Rattle.paper.specs.Words.{flat}
+use Rattle.paper.specs.Numbers.{surfaceNos}
+use Rattle.paper.specs.Replies.{words}
+use Rattle.store.specs.Store.{noSurface}
+use Rattle.session.proofs.Bytes.{word-more}
+use Rattle.session.proofs.writing.put_released.Statement.{statement}
+use Rattle.session.proofs.writing.put_released.Tie as tie
+
+abbrev Inv-loop : tie.InvT-loop
+Inv-loop d₀ at n xs i₀ d i =
+    (i ≤ n) × (n ≤ 17) × (length xs ≡ 17) × (at + 4 * n ≤ length d₀) × (length d ≡ length d₀) × (d ≡ sets d₀ at (words (surfaceNos (take i xs))))
+
+abbrev μ-loop : tie.MeasureT-loop
+μ-loop d₀ at n xs i₀ d i = n - i
+
+loop-holds : tie.Need-loop-holds Inv-loop μ-loop
+unfolding words flat
+loop-holds c = search needs
+
+mul-x : tie.Need-mul-x Inv-loop μ-loop
+mul-x c = search needs
+
+array-copy-out-x : tie.Need-array-copy-out-x Inv-loop μ-loop
+array-copy-out-x c = search needs
+
+mul-put-u32 : tie.Need-mul-put-u32 Inv-loop μ-loop
+mul-put-u32 c = search needs
+
+add-put-u32 : tie.Need-add-put-u32 Inv-loop μ-loop
+add-put-u32 c = search needs
+
+put-u32-requires : tie.Need-put-u32-requires Inv-loop μ-loop
+put-u32-requires c κs = search needs
+
+add-i : tie.Need-add-i Inv-loop μ-loop
+add-i c = search needs
+
+loop-less : tie.Need-loop-less Inv-loop μ-loop
+loop-less c = search needs
+
+loop-again : tie.Need-loop-again Inv-loop μ-loop
+loop-again c =
+    let l = c .before .before .before .before .before .before .loop in
+    let a = c .before .before .before .before .before .before .before .before .args in (
+      search needs,
+      search needs,
+      search needs,
+      search needs,
+      c .before .before .put-u32 .kept .0 ∙ l .inv .4,
+      word-more (λ (x : Surface). x .0) noSurface (a .t3) (a .d .now) (a .at) (l .i) (omega arith) (l .inv .5) (c .before .before .put-u32 .ensures .1),
+    )
+
+mul-result : tie.Need-mul-result Inv-loop μ-loop
+mul-result c = search needs
+
+add-result : tie.Need-add-result Inv-loop μ-loop
+add-result c = search needs
+
+same-length : tie.Need-same-length Inv-loop μ-loop
+same-length c = search needs
+
+returns : tie.Need-returns Inv-loop μ-loop
+returns c = let e : c .before .loop .i ≡ c .before .before .before .args .n = omega arith in (search needs, cc)
+
+pub put-released-spec : {M : Type 1} → statement M
+put-released-spec =
+    tie.close
+    (tie.spec
+    Inv-loop
+    μ-loop
+    loop-holds
+    mul-x
+    array-copy-out-x
+    mul-put-u32
+    add-put-u32
+    put-u32-requires
+    add-i
+    loop-less
+    loop-again
+    mul-result
+    add-result
+    same-length
+    returns)

@@ -1,0 +1,76 @@
+-- A begin as the code goes through it: what has been read and tested at each stage.
+use Prim.Native.Nat.{ℕ, _+_}
+use mathlib.Core.Path.{_≡_}
+use mathlib.Core.List.{List}
+use mathlib.Core.Bool.{Bool, true, false, cond, _&&_}
+use lib.Dec.{eqb}
+use Rattle.paper.specs.declared.Prev.{Prev}
+use Rattle.paper.specs.declared.Prev.the-variants as Prev
+use Rattle.paper.specs.declared.Current.{Current}
+use Rattle.paper.specs.Words.{anyB}
+use Rattle.paper.specs.Numbers.{bit, flagAt, missing, aSerial}
+use Rattle.paper.specs.State.{isCurrent, modulus}
+use Rattle.paper.specs.Records.{fieldsOf}
+use Rattle.paper.specs.Nal.{irap}
+use Rattle.paper.specs.Ranges.{beginRanges}
+use Rattle.paper.specs.Flags.{noRaslOutput, picOutput, noPriorOutput, validPrev}
+use Rattle.paper.specs.Poc.{in32}
+use Rattle.paper.specs.Begin.{msb, poc, wishes, within}
+use Rattle.paper.specs.Begin as Begin
+use Rattle.paper.specs.Step.{heldBy}
+use Rattle.store.specs.declared.Wanted16.{Wanted16}
+use Rattle.store.specs.Sets.{Few, wishesIn}
+use Rattle.session.specs.declared.Session.{Session}
+use Rattle.session.specs.declared.reading.Head.{Head}
+use Rattle.session.specs.declared.reading.Wanting.{Wanting}
+use Rattle.session.specs.declared.starting.Flags.{Flags}
+use Rattle.session.specs.declared.starting.Start.{Start}
+use Rattle.session.specs.Parts.{headOf}
+use Rattle.session.specs.View.{view}
+
+abbrev pub flagsFrom : Bool → Bool → Head → Flags
+flagsFrom start ended h =
+    record {
+      rasl = noRaslOutput (h .nal) start ended;
+      output = picOutput (h .nal) (noRaslOutput (h .nal) start ended) (bit 0 (h .flags));
+      valid = validPrev (h .nal) (h .tid);
+      prior = noPriorOutput (h .nal) (noRaslOutput (h .nal) start ended) start (bit 1 (h .flags));
+      over = irap (h .nal) && noRaslOutput (h .nal) start ended;
+    }
+
+abbrev pub flagsNumber : Flags → ℕ
+flagsNumber f = flagAt 0 (f .rasl) + flagAt 1 (f .output) + flagAt 2 (f .valid) + flagAt 3 (f .prior)
+
+abbrev pub prevFrom : Bool → Prev → Prev
+prevFrom over q = cond over Prev.Nothing q
+
+abbrev pub currentFrom : ℕ → Head → Start → Current
+currentFrom next h t =
+    record { serial = aSerial next; surface = h .surface; poc = t .poc; lsb = h .lsb; msb = t .msb; output = t .flags .output; valid = t .flags .valid }
+
+abbrev pub wantedFrom : Head → Wanting → Wanted16
+wantedFrom h w = record { items = w .items; neg = h .neg; pos = h .pos; lt = h .lt }
+
+-- none of 1, 3, 5, 8 and 7
+pub record Passed (s : Session) (r : List ℕ) : Type 0 where
+  pub configured : s .configured ≡ true
+  pub idle : isCurrent (s .current) ≡ false
+  pub ranges : beginRanges (modulus (s .limits)) (fieldsOf r) ≡ true
+  pub roomy : eqb (s .next) (missing .0) ≡ false
+  pub free : anyB (heldBy (fieldsOf r .surface)) (view s .store) ≡ false
+
+-- and the flags, the MSB and the POC, which lie in i32
+pub record Placed (s : Session) (r : List ℕ) (h : Head) (t : Start) : Type 0 where
+  pub passed : Passed s r
+  pub head : h ≡ headOf r
+  pub flags : t .flags ≡ flagsFrom (s .start) (s .ended) h
+  pub msb : t .msb ≡ Begin.msb (view s) (fieldsOf r)
+  pub poc : t .poc ≡ Begin.poc (view s) (fieldsOf r)
+  pub inside : (in32 (t .msb) && in32 (t .poc)) ≡ true
+
+-- and the wishes, all of which do
+pub record Wished (s : Session) (r : List ℕ) (h : Head) (t : Start) (w : Wanted16) : Type 0 where
+  pub placed : Placed s r h t
+  pub within : within (view s) (fieldsOf r) ≡ true
+  pub few : Few w
+  pub wishes : wishesIn w ≡ wishes (view s) (fieldsOf r)
