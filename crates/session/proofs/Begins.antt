@@ -9,7 +9,7 @@ use lib.Seq.{take-add, take-append-seam, drop-append-seam}
 use lib.Dec.{eqb}
 use lib.IntN.{ℤ}
 use lib.Signed.{mag}
-use borrow.Author.Tests.{ltb-true}
+use borrow.Author.Tests.{ltb-true, not-true, not-false}
 use mir.Syntax.{w32}
 use mir.Val.{toZ, ofZ}
 use mir.Facts.{toZ-ofZ}
@@ -53,7 +53,7 @@ use Rattle.store.specs.Store as S
 use Rattle.arrays.proofs.Pad.{is-view}
 use Rattle.store.specs.Sets.{Few, wishesIn, HoldsSets, HoldsDerived}
 use Rattle.store.proofs.Moves.{moved-is}
-use Rattle.store.proofs.Views.{refs-are, rest-are}
+use Rattle.store.proofs.Views.{first-part, second-of-three, third-of-three, refs-are, rest-are}
 use Rattle.session.specs.declared.Session.{Session}
 use Rattle.session.specs.declared.reading.Head.{Head}
 use Rattle.session.specs.declared.reading.Wanting.{Wanting}
@@ -131,17 +131,6 @@ module _ (r : List ℕ) where
     unfolding wishesOf fieldsOf
     lt-long = length-map (table (longAt r (16 + 5 * (u8 r 13 + u8 r 14))) (u8 r 15)) _ ∙ table-length (longAt r (16 + 5 * (u8 r 13 + u8 r 14))) (u8 r 15)
 
--- three lists one behind the other, read back
-module _ (a b c x : List Wish) where
-  part1 : take (length a) ((a ++ (b ++ c)) ++ x) ≡ a
-  part1 = rw (append-assoc a (b ++ c) x) (take-append-seam a ((b ++ c) ++ x))
-
-  part2 : take (length b) (drop (length a) ((a ++ (b ++ c)) ++ x)) ≡ b
-  part2 = rw (append-assoc a (b ++ c) x, drop-append-seam a ((b ++ c) ++ x), append-assoc b c x) (take-append-seam b (c ++ x))
-
-  part3 : take (length c) (drop (length a + length b) ((a ++ (b ++ c)) ++ x)) ≡ c
-  part3 = rw (← append-assoc a b c, append-assoc (a ++ b) c x, ← length-append a b, drop-append-seam (a ++ b) (c ++ x)) (take-append-seam c x)
-
 three : {a a′ b b′ c c′ : List Wish} → a ≡ a′ → b ≡ b′ → c ≡ c′ → _≡_ {A = Wishes} (record { neg = a; pos = b; lt = c }) (record { neg = a′; pos = b′; lt = c′ })
 three p q o = λ i. record { neg = p i; pos = q i; lt = o i }
 
@@ -151,9 +140,9 @@ wishes-back r M p w h e =
     let x = wishesOf M p (fieldsOf r) in
     let z = replicate (16 - length (x .neg ++ (x .pos ++ x .lt))) noWish in
     three
-    (rw (k .places, ← neg-long r M p) (part1 (x .neg) (x .pos) (x .lt) z))
-    (rw (k .places, ← neg-long r M p, ← pos-long r M p) (part2 (x .neg) (x .pos) (x .lt) z))
-    (rw (k .places, ← neg-long r M p, ← pos-long r M p, ← lt-long r M p) (part3 (x .neg) (x .pos) (x .lt) z))
+    (rw (k .places, ← neg-long r M p) (first-part (x .neg) (x .pos ++ x .lt) z))
+    (rw (k .places, ← neg-long r M p, ← pos-long r M p) (second-of-three (x .neg) (x .pos) (x .lt) z))
+    (rw (k .places, ← neg-long r M p, ← pos-long r M p, ← lt-long r M p) (third-of-three (x .neg) (x .pos) (x .lt) z))
 
 -- ---- the reply: the members of the sets in the paper's order
 
@@ -322,14 +311,6 @@ few-of e l = subst (λ (x : Head). x .neg + x .pos + x .lt ≤ 16) (sym e) l
 last-no : (a b : Bool) → b ≡ false → (a && b) ≡ false
 last-no true b e = e
 last-no false b e = refl
-
-not-true : (b : Bool) → not b ≡ true → b ≡ false
-not-true true e = sym e
-not-true false e = refl
-
-pub not-false : (b : Bool) → not b ≡ false → b ≡ true
-not-false true e = refl
-not-false false e = sym e
 
 wishes-of : (s : Session) (r : List ℕ) (t : Start) {w : Wanting} → t .poc ≡ poc (view s) (fieldsOf r) → HoldsWishes w (wishesOf (2 ^ (min (s .limits .k) 16)) (t .poc) (fieldsOf r)) → HoldsWishes w (wishes (view s) (fieldsOf r))
 wishes-of s r t {w} e h = subst (λ (p : ℤ). HoldsWishes w (wishesOf (2 ^ (min (s .limits .k) 16)) p (fieldsOf r))) e h

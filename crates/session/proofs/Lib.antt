@@ -5,3 +5,4 @@ pub mod Entries
 pub mod Slicing
 pub mod Begins
 pub mod Steps
+pub mod Bridge

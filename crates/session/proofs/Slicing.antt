@@ -37,6 +37,7 @@ use Rattle.session.specs.declared.listing.Verdict.{Verdict}
 use Rattle.session.specs.declared.listing.Verdict.the-variants.{Fine, No}
 use Rattle.session.specs.Numbered.{numberOf}
 use Rattle.session.specs.Said.{Says, WellFormed}
+use Rattle.session.proofs.Bytes.{refusal-number}
 use Rattle.session.specs.Slices.{AsksAs, numberIn, listsNumber}
 use Rattle.session.specs.View.{view}
 use Rattle.session.specs.Written.{listIn, Listable}
@@ -271,23 +272,6 @@ listable l xs h = record { holds = is-good h }
 
 -- ---- the answer
 
--- no refusal has the number 0
-numbered : (r : Refusal) → eqb (numberOf r) 0 ≡ false
-numbered Unconfigured = refl
-numbered BadLimits = refl
-numbered Busy = refl
-numbered NoCurrent = refl
-numbered OutOfRange = refl
-numbered Outside = refl
-numbered SurfaceHeld = refl
-numbered SerialsSpent = refl
-numbered StoreFull = refl
-numbered NoCandidate = refl
-numbered TooMany = refl
-numbered BadEntry = refl
-numbered Malformed = refl
-numbered NoRoom = refl
-
 pub fine-is : (v : Verdict) (n : ℕ) → v ≡ Fine → numberIn v ≡ n → n ≡ 0
 fine-is v n e j = sym j ∙ rw e
 
@@ -299,7 +283,7 @@ module _ (s : Session) (c : Current) (f : Slice) (before after : List ℕ) where
   pub says-no : (a : Answer) (v : Verdict) (why : Refusal) → v ≡ No why → numberIn v ≡ listsNumber (refsIn (s .refs)) (c .serial) f → Says s 3 (refused (view s) 259 (numberOf why)) before a after → Says s 3 (listsAt (view s) f c) before a after
   says-no a v why e j h =
       let i : listsRefusal (view s) c f ≡ numberOf why = same-order s c f ∙ sym j ∙ rw e in
-      rw (i, numbered why) h
+      rw (i, refusal-number why) h
 
   pub says-lists : (x y : RefList) (n : ℕ) → listsNumber (refsIn (s .refs)) (c .serial) f ≡ 0
       → HoldsList x (list0 (refsIn (s .refs)) (c .serial) f) → HoldsList y (list1 (refsIn (s .refs)) (c .serial) f)

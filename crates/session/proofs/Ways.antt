@@ -3,8 +3,8 @@ use Prim.Native.Nat.{ℕ, _+_}
 use mathlib.Core.Path.{_≡_, refl, sym, ap, _∙_}
 use mathlib.Core.List.{List, [], _∷_}
 use mathlib.Core.Bool.{Bool, true, false, not, _&&_}
-use native.Mathlib.Omega.{arith}
 use lib.Dec.{eqb}
+use borrow.Author.Tests.{not-true, not-false}
 use Rattle.paper.specs.declared.Current.{Current}
 use Rattle.paper.specs.declared.Limits.{Limits}
 use Rattle.paper.specs.declared.Now.{Now}
@@ -139,9 +139,7 @@ module _ (v : Session) where
 
 -- what a test of the limits that were read says of those of the record
 pub ranges-no : {l m : Limits} {b : Bool} → l ≡ m → b ≡ configureRanges l → not b ≡ true → configureRanges m ≡ false
-ranges-no {b = true} e p h = absurd (let z : _≡_ {A = ℕ} 0 1 = cc in omega arith)
-ranges-no {b = false} e p h = sym (ap configureRanges e) ∙ sym p
+ranges-no {b = b} e p h = sym (ap configureRanges e) ∙ sym p ∙ not-true b h
 
 pub ranges-yes : {l m : Limits} {b : Bool} → l ≡ m → b ≡ configureRanges l → not b ≡ false → configureRanges m ≡ true
-ranges-yes {b = true} e p h = sym (ap configureRanges e) ∙ sym p
-ranges-yes {b = false} e p h = absurd (let z : _≡_ {A = ℕ} 0 1 = cc in omega arith)
+ranges-yes {b = b} e p h = sym (ap configureRanges e) ∙ sym p ∙ not-false b h

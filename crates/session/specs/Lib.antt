@@ -5,3 +5,4 @@ pub mod Said
 pub mod Slices
 pub mod Written
 pub mod Starts
+pub mod Runs

@@ -39,6 +39,21 @@ packed ps = record { pics = pad 16 blank ps; len = length ps }
 abbrev pub packedRefs : Sets3 → Refs
 packedRefs x = record { items = pad 16 noSerial (x .before ++ (x .after ++ x .ltCurr)); before = length (x .before); after = length (x .after); long = length (x .ltCurr) }
 
+-- a session of the paper's laid out whole
+abbrev pub laid : P.Session → Session
+laid x =
+    record {
+      configured = x .configured;
+      limits = x .limits;
+      store = packed (x .store);
+      current = x .current;
+      refs = packedRefs (x .refs);
+      prev = x .prev;
+      start = x .atStart;
+      ended = x .ended;
+      next = x .next;
+    }
+
 -- the kinds that hand the store on as it came, and those that hand the sets on: lists, end of sequence, abandon
 abbrev pub keepsStore : ℕ → Bool
 keepsStore k = eqb k 3 || eqb k 7 || eqb k 8

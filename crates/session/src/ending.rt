@@ -149,10 +149,10 @@ pub(crate) fn configure(s: Session, msg: &[u8], reply: &mut [u8]) -> Answer
     if is_stuck(s) {
         return writing::refuse(s, reply, 257, Refusal::StoreFull);
     }
-    let limits = s.limits;
+    let old = s.limits;
     let store = s.store;
     let current = s.current;
-    let o = store::drain(store, current, limits);
+    let o = store::drain(store, current, old);
     let len = writing::put_done(reply, 257, o);
     let left = o.store;
     let taken = ranges::taken_limits(l);

@@ -9,7 +9,7 @@ mod writing;
 ghost use mathlib.Core.Path.{_≡_};
 ghost use Rattle.paper.specs.State.{fresh as freshSession};
 ghost use Rattle.session.specs.Numbered.{numberOf};
-ghost use Rattle.session.specs.View.{packed, packedRefs, nextOf, view};
+ghost use Rattle.session.specs.View.{laid};
 ghost use Rattle.session.specs.Said.{Permitted};
 use derivation::rows::Refs;
 use paper::Limits;
@@ -80,7 +80,7 @@ pub fn number(r: Refusal) -> u16
 
 // A session that has heard nothing.
 pub fn fresh() -> Session
-    ensures { λ r. ⌜ view r ≡ freshSession ⌝ }
+    ensures { λ r. ⌜ r ≡ laid freshSession ⌝ }
 {
     let limits = Limits {
         k: 0,

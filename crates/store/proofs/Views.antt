@@ -15,17 +15,17 @@ use Rattle.store.specs.declared.Sets.{Sets}
 
 -- of lists one behind the other, with anything behind them
 module _ {A : Type 0} (a b : List A) where
-  first-part : (r : List A) → take (length a) ((a ++ b) ++ r) ≡ a
+  pub first-part : (r : List A) → take (length a) ((a ++ b) ++ r) ≡ a
   first-part r = rw (append-assoc a b r) (take-append-seam a (b ++ r))
 
   last-part : (r : List A) → take (length b) (drop (length a) ((a ++ b) ++ r)) ≡ b
   last-part r = rw (append-assoc a b r, drop-append-seam a (b ++ r)) (take-append-seam b r)
 
 module _ {A : Type 0} (a b c r : List A) where
-  second-of-three : take (length b) (drop (length a) ((a ++ (b ++ c)) ++ r)) ≡ b
+  pub second-of-three : take (length b) (drop (length a) ((a ++ (b ++ c)) ++ r)) ≡ b
   second-of-three = rw (append-assoc a (b ++ c) r, drop-append-seam a ((b ++ c) ++ r)) (first-part b c r)
 
-  third-of-three : take (length c) (drop (length a + length b) ((a ++ (b ++ c)) ++ r)) ≡ c
+  pub third-of-three : take (length c) (drop (length a + length b) ((a ++ (b ++ c)) ++ r)) ≡ c
   third-of-three = rw (← append-assoc a b c, ← length-append a b) (last-part (a ++ b) c r)
 
 -- derivation's reading of the sets is the paper's

@@ -1,5 +1,5 @@
--- An empty store holds no picture, and empty sets no member.
-use Rattle.arrays.proofs.Pad.{is-view}
+-- An empty store and empty sets are blank in every place.
+use Rattle.session.proofs.Saying.{packed-is}
 use borrow.Author.Needs.{needs}
 use Rattle.session.proofs.fresh.Statement.{statement}
 use Rattle.session.proofs.fresh.Tie as tie
@@ -11,7 +11,7 @@ none-requires : tie.Need-none-requires
 none-requires c κs = search needs
 
 returns : tie.Need-returns
-returns c = rw (is-view (c .before .empty .ensures), c .none .ensures .1)
+returns c = rw (packed-is (c .before .empty .ensures), c .none .ensures .0)
 
 pub fresh-spec : {M : Type 1} → statement M
 fresh-spec = tie.close (tie.spec empty-requires none-requires returns)

@@ -1,10 +1,9 @@
 -- One law for each way out, in the order of the refusals.
-use Rattle.session.proofs.Begins.{not-false}
 use Rattle.session.proofs.Ways.{begin-1, begin-3, begin-5, begin-8, begin-7}
 use Rattle.paper.specs.Step.{heldBy}
 use Rattle.paper.specs.Words.{anyB}
 use Rattle.paper.specs.declared.Surface.{Surface}
-use borrow.Author.Tests.{eq-eqb, ne-eqb}
+use borrow.Author.Tests.{eq-eqb, ne-eqb, not-false}
 use Rattle.session.specs.View.{view}
 use Rattle.session.proofs.Saying.{as-decided}
 use mathlib.Core.Bool.{not}
