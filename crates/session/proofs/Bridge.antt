@@ -93,7 +93,7 @@ decided-views s r =
 record ViewsAt (s : Session) (k : ℕ) (x : Result) : Type 0 where
   is : view (cond (eqb (x .number) 0) (nextOf s k (x .next)) s) ≡ x .next
 
-views-at : (s : Session) (r : List ℕ) (room : ℕ) → view (answerOf s r room .next) ≡ stepOf (view s) r room .next
+pub views-at : (s : Session) (r : List ℕ) (room : ℕ) → view (answerOf s r room .next) ≡ stepOf (view s) r room .next
 unfolding stepOf
 views-at s r room =
     let d = decideOf (view s) r in

@@ -1,0 +1,87 @@
+-- What is taken and what is made lies within the buffers, so the rest of the input can be moved to the start. Where nothing is taken no record is whole,
+-- so what waits is shorter than the input buffer.
+use mathlib.Core.Path.{_≡_, sym}
+use native.Mathlib.Omega.{arith}
+use borrow.Author.Needs.{needs}
+use lib.ListN.{length}
+use lib.Seq.{length-take-le}
+use Rattle.replay.proofs.Answering.{room-left}
+use Rattle.replay.proofs.Fitting.{within}
+use Rattle.replay.proofs.turn.Statement.{statement}
+use Rattle.replay.proofs.turn.Tie as tie
+
+slice-reshare-prefix-answer : tie.Need-slice-reshare-prefix-answer
+slice-reshare-prefix-answer c = search needs
+
+slice-aggregate-answer : tie.Need-slice-aggregate-answer
+slice-aggregate-answer c = let s = c .before .before .before in sym (length-take-le (s .args .held) (s .args .input .now) (s .pre .0))
+
+answer-requires : tie.Need-answer-requires
+answer-requires c κs = search needs
+
+read-on-requires : tie.Need-read-on-requires
+read-on-requires c κs =
+    let st = c .before .before .before .before .before .before .before .before .before in
+    let a = c .before .before .before .before .answer in
+    let e : length (a .last .1 .1 .0) ≡ length (st .args .output .now) = a .kept .1 .1 .0 in
+    let p = st .pre in
+    room-left (st .args .held) (a .result .taken) (a .result .made) (st .args .input .now) (a .last .1 .1 .0) (c .before .if1 .taken) (a .ensures .1 .0) (a .ensures .1 .1)
+    (a .ensures .0 .1) (omega (arith, e, p)) (λ k. c .before .before .before .before .before .before .before .before .slice-known .given k .fits) (p .1 .0) (p .0)
+
+same-length : tie.Need-same-length
+same-length c = search needs
+
+same-length-2 : tie.Need-same-length-2
+same-length-2 c = search needs
+
+returns : tie.Need-returns
+returns c = search needs
+
+slice-reshare-prefix-write-all : tie.Need-slice-reshare-prefix-write-all
+slice-reshare-prefix-write-all c = search needs
+
+slice-aggregate-write-all : tie.Need-slice-aggregate-write-all
+slice-aggregate-write-all c = let a = c .before .before .before .before .answer in sym (length-take-le (a .result .made) (a .last .1 .1 .0) (a .ensures .0 .1))
+
+write-all-requires : tie.Need-write-all-requires
+write-all-requires c κs = search needs
+
+shift-requires : tie.Need-shift-requires
+shift-requires c κs =
+    let s = c .before .before .before .before .before .before .before .before .before .before .before in
+    let h = within (s .args .held) (s .args .input .now) (s .pre .0) (c .before .before .before .before .before .before .answer .ensures .0 .0) in
+    (h, s .pre .0)
+
+sub-t22 : tie.Need-sub-t22
+sub-t22 c =
+    let s = c .before .before .before .before .before .before .before .before .before .before .before .before .before .before .before in
+    within (s .args .held) (s .args .input .now) (s .pre .0) (c .before .before .before .before .before .before .before .before .before .before .answer .ensures .0 .0)
+
+same-length-3 : tie.Need-same-length-3
+same-length-3 c = search needs
+
+same-length-4 : tie.Need-same-length-4
+same-length-4 c = search needs
+
+returns-2 : tie.Need-returns-2
+returns-2 c = search needs
+
+pub turn-spec : {M : Type 1} → statement M
+turn-spec =
+    tie.close
+    (tie.spec
+    slice-reshare-prefix-answer
+    slice-aggregate-answer
+    answer-requires
+    read-on-requires
+    same-length
+    same-length-2
+    returns
+    slice-reshare-prefix-write-all
+    slice-aggregate-write-all
+    write-all-requires
+    shift-requires
+    sub-t22
+    same-length-3
+    same-length-4
+    returns-2)

@@ -1,0 +1,46 @@
+-- The replies to some records, one after the other.
+use Prim.Native.Nat.{ℕ, _+_, _≤_}
+use mathlib.Core.Path.{_≡_}
+use mathlib.Core.List.{List, [], _∷_, _++_}
+use mathlib.Core.Bool.{Bool, true}
+use lib.ListN.{length, take}
+use lib.Dec.{eqb}
+use Rattle.paper.specs.Words.{allB}
+use Rattle.paper.specs.Records.{lengthOf}
+use Rattle.paper.specs.Step.{stepOf}
+use Rattle.session.specs.declared.Session.{Session}
+use Rattle.session.specs.declared.Answer.{Answer}
+use Rattle.session.specs.View.{view}
+use Rattle.session.specs.Said.{answerOf}
+
+-- one after the other, nothing between
+unfoldable pub joined : List (List ℕ) → List ℕ
+joined [] = []
+joined (r ∷ rs) = r ++ joined rs
+
+-- "exactly head plus body"
+abbrev pub isWhole : List ℕ → Bool
+isWhole r = eqb (length r) (4 + lengthOf r)
+
+-- what the calls of a session write, and the session after them
+unfoldable pub repliesTo : Session → List (List ℕ) → List (List ℕ)
+repliesTo s [] = []
+repliesTo s (r ∷ rs) = stepOf (view s) r 512 .bytes ∷ repliesTo (answerOf s r 512 .next) rs
+
+unfoldable pub afterAll : Session → List (List ℕ) → Session
+afterAll s [] = s
+afterAll s (r ∷ rs) = afterAll (answerOf s r 512 .next) rs
+
+-- a reply put behind the first `made` bytes
+pub record Added (s : Session) (r : List ℕ) (made : ℕ) (before : List ℕ) (a : Answer) (after : List ℕ) : Type 0 where
+  pub answer : a ≡ answerOf s r 512
+  pub fits : made + a .len ≤ length before
+  pub bytes : take (made + a .len) after ≡ take made before ++ stepOf (view s) r 512 .bytes
+
+-- the first `taken` bytes are whole records, the first `made` bytes of the output the replies to them, and `next` the session after them
+pub record Answers (s : Session) (input : List ℕ) (next : Session) (taken made : ℕ) (output : List ℕ) : Type 0 where
+  pub said : List (List ℕ)
+  pub whole : allB isWhole said ≡ true
+  pub cut : take taken input ≡ joined said
+  pub replied : take made output ≡ joined (repliesTo s said)
+  pub after : next ≡ afterAll s said

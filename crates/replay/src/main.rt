@@ -1,0 +1,152 @@
+// Layer 4, the program: "reads records from standard input and writes the replies". A record is answered when all of it is there. So the session itself
+// answers 13 to a body over 512 bytes, and a last record that is incomplete gets no reply.
+use session::Answer;
+use session::Session;
+use store::Store;
+ghost use mathlib.Core.Path.{_≡_};
+ghost use Prim.Native.Nat.{_+_, _-_, _≤_, _<_};
+ghost use lib.ListN.{length, drop};
+ghost use lib.Seq.{paste};
+ghost use Rattle.replay.specs.Whole.{sizeOf};
+ghost use Rattle.replay.specs.Answers.{Added, Answers};
+
+// A record has at most 65,539 bytes, so there is always room to read on behind one that is not whole yet.
+const INPUT: usize = 131072;
+
+// Room for the replies of one write.
+const OUTPUT: usize = 65536;
+
+// The session after some records, how many bytes these had, and how many their replies have.
+struct Answered {
+    next: Session,
+    taken: usize,
+    made: usize,
+}
+
+// The session, how many bytes wait at the start of the input buffer, and whether the run goes on.
+struct After {
+    next: Session,
+    held: usize,
+    more: bool,
+}
+
+// The size of the record at the start of these bytes, or 0 where it is not whole yet.
+fn size(bytes: &[u8]) -> usize
+    ensures { λ r. ⌜ r ≡ sizeOf (now (bytes .entry)) ⌝ }
+{
+    if bytes.len() < 4 {
+        return 0;
+    }
+    let n = 4 + wire::u16_at(bytes, 0) as usize;
+    if bytes.len() < n {
+        return 0;
+    }
+    n
+}
+
+// Answers one record, with the reply behind the `made` bytes of the earlier ones.
+fn reply_to(s: Session, msg: &[u8], replies: &mut [u8], made: usize) -> Answer
+    requires { ⌜ made + 512 ≤ length (now replies) ⌝ }
+    ensures { λ r. ⌜ Added s (now (msg .entry)) made (now (replies .entry)) r (now (replies .exit)) ⌝ }
+{
+    session::step(s, msg, &mut replies[made..])
+}
+
+// Answers the whole records at the start of these bytes, one after the other, while there is room for a reply.
+fn answer(s: Session, bytes: &[u8], replies: &mut [u8]) -> Answered
+    ensures within { λ r. ⌜ (r .taken ≤ length (now (bytes .entry))) × (r .made ≤ length (now (replies .exit))) ⌝ }
+    ensures answers { λ r. ⌜ Answers s (now (bytes .entry)) (r .next) (r .taken) (r .made) (now (replies .exit)) ⌝ }
+    ensures all { λ r. ⌜ (r .made + 512 ≤ length (now (replies .exit)) → sizeOf (drop (r .taken) (now (bytes .entry))) ≡ 0) ⌝ }
+{
+    let mut next = s;
+    let mut taken = 0;
+    let mut made = 0;
+    while made + Store::REPLY <= replies.len() {
+        let n = size(&bytes[taken..]);
+        if n == 0 {
+            return Answered { next, taken, made };
+        }
+        let e = taken + n;
+        let a = reply_to(next, &bytes[taken..e], replies, made);
+        let after = a.next;
+        next = after;
+        taken = e;
+        made += a.len;
+    }
+    Answered { next, taken, made }
+}
+
+// Moves the bytes from `from` to `end` to the start.
+fn shift(bytes: &mut [u8], from: usize, end: usize)
+    requires { ⌜ (from ≤ end) × (end ≤ length (now bytes)) ⌝ }
+    ensures { λ _. ⌜ now (bytes .exit) ≡ paste (now (bytes .entry)) 0 (drop from (now (bytes .entry))) (end - from) ⌝ }
+{
+    let mut i = from;
+    while i < end {
+        bytes[i - from] = bytes[i];
+        i += 1;
+    }
+}
+
+// One read behind the `held` bytes that wait, with room for one byte at least: none is read only at the end of the input, which ends the run.
+fn read_on(s: Session, held: usize, input: &mut [u8]) -> After
+    requires { ⌜ held < length (now input) ⌝ }
+    ensures { λ r. ⌜ r .held ≤ length (now (input .exit)) ⌝ }
+{
+    let rest = &mut input[held..];
+    let got = libc::read(0, rest);
+    let n = io::count(got, rest);
+    After {
+        next: s,
+        held: held + n,
+        more: n > 0,
+    }
+}
+
+// Answers what is whole and writes the replies; reads on only where nothing is whole, so that no reply waits for input.
+fn turn(s: Session, held: usize, input: &mut [u8], output: &mut [u8]) -> After
+    requires { ⌜ held ≤ length (now input) ⌝ }
+    requires { ⌜ (65539 ≤ length (now input)) × (512 ≤ length (now output)) ⌝ }
+    ensures { λ r. ⌜ r .held ≤ length (now (input .exit)) ⌝ }
+{
+    let a = answer(s, &input[..held], output);
+    let taken = a.taken;
+    if taken == 0 {
+        return read_on(s, held, input);
+    }
+    let made = a.made;
+    let more = io::write_all(1, &output[..made]);
+    shift(input, taken, held);
+    let next = a.next;
+    After {
+        next,
+        held: held - taken,
+        more,
+    }
+}
+
+// Turn after turn from a fresh session. Nothing says that the input ends, so the turns are counted.
+fn run(input: &mut [u8], output: &mut [u8])
+    requires { ⌜ (65539 ≤ length (now input)) × (512 ≤ length (now output)) ⌝ }
+{
+    let mut s = session::fresh();
+    let mut held = 0;
+    let mut left: u64 = 18446744073709551615;
+    while left > 0 {
+        let t = turn(s, held, input, output);
+        if !t.more {
+            return;
+        }
+        let next = t.next;
+        s = next;
+        held = t.held;
+        left -= 1;
+    }
+}
+
+// Both buffers are here, of one size for any length of input.
+fn main() {
+    let mut input = [0u8; INPUT];
+    let mut output = [0u8; OUTPUT];
+    run(&mut input, &mut output);
+}
