@@ -157,13 +157,14 @@ pub(crate) fn configure(s: Session, msg: &[u8], reply: &mut [u8]) -> Answer
     let left = o.store;
     let taken = ranges::taken_limits(l);
     let refs = Refs::none();
+    let prev = Prev::Nothing;
     let next = Session {
         configured: true,
         limits: taken,
         store: left,
         current: Now::Idle,
         refs,
-        prev: Prev::Nothing,
+        prev,
         start: s.start,
         ended: s.ended,
         next: s.next,
