@@ -19,7 +19,8 @@ use Rattle.paper.specs.Output.{Tail}
 use Rattle.paper.specs.Calls.{stored}
 use Rattle.paper.specs.Replies.{Begun, Reply}
 use Rattle.paper.specs.Step.{stepOf, sessionAfter}
-use Rattle.paper.specs.Ledger.{linesOf, Line, Ledger, Event, Exchange, blank, lies, names, mayAll, uponAll, events, none, landed, abandoned, unchanged, lineOf, tell, told, readReply}
+use Rattle.paper.specs.declared.Line.{Line}
+use Rattle.paper.specs.Ledger.{linesOf, Ledger, Event, Exchange, blank, lies, names, mayAll, uponAll, events, none, landed, abandoned, unchanged, lineOf, tell, told, readReply}
 use Rattle.paper.specs.Statement.{exchanges, line, currentLine, ledgerOf, Bytes}
 use Rattle.paper.specs.Accounts.{count, serials, surfaces, wanting, begunIn, tailIn, begunAll, handedAll, thrownAll, releasedAll, Accounts}
 use Rattle.paper.specs.declared.Now.the-variants as Now
@@ -150,7 +151,7 @@ pub record From (s : Session) (rs : List (List ℕ)) : Type 0 where
   pub once : (n : ℕ) → (count n (serials (begunAll (exchanges s rs))) ≤ 1) × (n < s .next → count n (serials (begunAll (exchanges s rs))) ≡ 0)
 
 serials-append : (n : ℕ) (H K : List Line) → count n (serials (H ++ K)) ≡ count n (serials H) + count n (serials K)
-serials-append n H K = ap (count n) (map-append (λ (e : Line). e .serial) H K) ∙ count-append n (serials H) (serials K)
+serials-append n H K = ap (count n) (map-append (λ (e : Line). e .serial .0) H K) ∙ count-append n (serials H) (serials K)
 
 from-none : (s : Session) → From s []
 unfolding exchanges sessionAfter begunAll handedAll thrownAll releasedAll count wanting keep

@@ -12,7 +12,8 @@ use Rattle.paper.specs.State.{Session, fresh}
 use Rattle.paper.specs.Output.{Tail}
 use Rattle.paper.specs.Replies.{Begun, Reply}
 use Rattle.paper.specs.Step.{stepOf, sessionAfter}
-use Rattle.paper.specs.Ledger.{linesOf, Line, Ledger, Exchange, lies, none, names, mayAll, uponAll, events, lineOf, tell, readReply}
+use Rattle.paper.specs.declared.Line.{Line}
+use Rattle.paper.specs.Ledger.{linesOf, Ledger, Exchange, lies, none, names, mayAll, uponAll, events, lineOf, tell, readReply}
 use Rattle.paper.specs.Statement.{exchanges, ledgerOf, Bytes}
 use Rattle.paper.specs.Accounts.{count, surfaces, begunIn, tailIn, begunAll, releasedAll}
 use Rattle.paper.proofs.Bools as B

@@ -6,7 +6,8 @@ use Rattle.paper.specs.Words.{keep, allB, anyB, Test, _gives_, first}
 use Rattle.paper.specs.Numbers.{serialNos, surfaceNos, u8, u16, u32, missing, sameSerial}
 use Rattle.paper.specs.Poc.{in32, eqZ}
 use Rattle.paper.specs.Output.{Tail}
-use Rattle.paper.specs.Ledger.{Line, Event, Hand, Throw, Free, waitsAs, waits, lies, may, off, free, upon, mayAll, uponAll, events, names}
+use Rattle.paper.specs.declared.Line.{Line}
+use Rattle.paper.specs.Ledger.{Event, Hand, Throw, Free, waitsAs, waits, lies, may, off, free, upon, mayAll, uponAll, events, names}
 use Prim.Native.Nat.{ℕ, zero, suc, _+_, _*_, _≤_, _<_}
 use mathlib.Core.Path.{_≡_, refl, sym, ap, _∙_, subst}
 use mathlib.Core.List.{List, [], _∷_, _++_, map}
@@ -23,8 +24,8 @@ use Rattle.paper.proofs.Every.{All, all-keep, all-map, all-more}
 use Rattle.paper.proofs.ReadBack.{Word, SerialWord, FitShown, FitTail}
 
 pub record FitLine (e : Line) : Type 0 where
-  pub serial : e .serial < 4294967296
-  pub surface : e .surface < 4294967296
+  pub serial : e .serial .0 < 4294967296
+  pub surface : e .surface .0 < 4294967296
   pub poc : in32 (e .poc) ≡ true
 
 -- some line of which f holds is within bounds
@@ -60,10 +61,10 @@ fit-hands (x ∷ xs) H a m = (
   any-fit (waitsAs x) H a
       (λ e f h.
       let h1 = right (e .wants) _ h in
-      let h2 = right (eqb (x .serial .0) (e .serial)) _ h1 in
-      let p : x .serial .0 ≡ e .serial = eqb-true _ _ (left (eqb (x .serial .0) (e .serial)) _ h1) in
-      let q : x .surface .0 ≡ e .surface = eqb-true _ _ (left (eqb (x .surface .0) (e .surface)) _ h2) in
-      let z : x .poc ≡ e .poc = same-z (x .poc) (e .poc) (right (eqb (x .surface .0) (e .surface)) _ h2) in
+      let h2 = right (eqb (x .serial .0) (e .serial .0)) _ h1 in
+      let p : x .serial .0 ≡ e .serial .0 = eqb-true _ _ (left (eqb (x .serial .0) (e .serial .0)) _ h1) in
+      let q : x .surface .0 ≡ e .surface .0 = eqb-true _ _ (left (eqb (x .surface .0) (e .surface .0)) _ h2) in
+      let z : x .poc ≡ e .poc = same-z (x .poc) (e .poc) (right (eqb (x .surface .0) (e .surface .0)) _ h2) in
       record { serial = rw p (f .serial); surface = rw q (f .surface); poc = rw z (f .poc) })
       (left (may (Hand x) H) _ m),
   fit-hands xs (upon (Hand x) H) (upon-fit (Hand x) H a) (right (may (Hand x) H) _ m),
@@ -73,7 +74,7 @@ fit-throws : (ns : List Serial) (H : List Line) → All FitLine H → mayAll (ma
 unfolding mayAll may
 fit-throws [] H a m = tt
 fit-throws (n ∷ ns) H a m = (
-  any-fit (waits (n .0)) H a (λ e f h. let p : n .0 ≡ e .serial = eqb-true _ _ (right (e .wants) _ h) in rw p (f .serial)) (left (may (Throw n) H) _ m),
+  any-fit (waits (n .0)) H a (λ e f h. let p : n .0 ≡ e .serial .0 = eqb-true _ _ (right (e .wants) _ h) in rw p (f .serial)) (left (may (Throw n) H) _ m),
   fit-throws ns (upon (Throw n) H) (upon-fit (Throw n) H a) (right (may (Throw n) H) _ m),
 )
 
@@ -81,7 +82,7 @@ fit-frees : (ns : List Surface) (H : List Line) → All FitLine H → mayAll (ma
 unfolding mayAll may
 fit-frees [] H a m = tt
 fit-frees (n ∷ ns) H a m = (
-  any-fit (lies (n .0)) H a (λ e f h. let p : n .0 ≡ e .surface = eqb-true _ _ h in rw p (f .surface)) (left (anyB (lies (n .0)) H) _ (left (may (Free n) H) _ m)),
+  any-fit (lies (n .0)) H a (λ e f h. let p : n .0 ≡ e .surface .0 = eqb-true _ _ h in rw p (f .surface)) (left (anyB (lies (n .0)) H) _ (left (may (Free n) H) _ m)),
   fit-frees ns (upon (Free n) H) (upon-fit (Free n) H a) (right (may (Free n) H) _ m),
 )
 
@@ -103,8 +104,8 @@ unfolding names allB
 fit-names [] H a e = tt
 fit-names (n ∷ ns) H a e = (
   split (sameSerial n missing) (λ p. let q : n .0 ≡ 4294967295 = eqb-true (n .0) 4294967295 p in omega arith)
-      (λ p. any-fit (λ (x : Line). eqb (n .0) (x .serial)) H a (λ x f h. let q : n .0 ≡ x .serial = eqb-true _ _ h in rw q (f .serial)) (rw p at (left (sameSerial n missing || anyB (λ (x : Line). eqb (n .0) (x .serial)) H) _ e))),
-  fit-names ns H a (right (sameSerial n missing || anyB (λ (x : Line). eqb (n .0) (x .serial)) H) _ e),
+      (λ p. any-fit (λ (x : Line). eqb (n .0) (x .serial .0)) H a (λ x f h. let q : n .0 ≡ x .serial .0 = eqb-true _ _ h in rw q (f .serial)) (rw p at (left (sameSerial n missing || anyB (λ (x : Line). eqb (n .0) (x .serial .0)) H) _ e))),
+  fit-names ns H a (right (sameSerial n missing || anyB (λ (x : Line). eqb (n .0) (x .serial .0)) H) _ e),
 )
 
 -- four bytes of a record

@@ -11,7 +11,8 @@ use Rattle.paper.specs.State.{Session, fresh}
 use Rattle.paper.specs.Output.{Tail}
 use Rattle.paper.specs.Replies.{Begun, Reply}
 use Rattle.paper.specs.Step.{Call, stepOf, sessionAfter, answeredOf}
-use Rattle.paper.specs.Ledger.{Line, Ledger, linesOf, none, names, blank, tell, told}
+use Rattle.paper.specs.declared.Line.{Line}
+use Rattle.paper.specs.Ledger.{Ledger, linesOf, none, names, blank, tell, told}
 use Rattle.paper.specs.Accounts.{count, surfaces, begunAll, releasedAll}
 use Rattle.paper.specs.Statement.{exchanges, ledgerOf, Bytes, replyTo, since, Statement, Demand}
 use Rattle.paper.proofs.Bools.{left, right}

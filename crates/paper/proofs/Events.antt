@@ -5,7 +5,8 @@ use Rattle.paper.specs.declared.Shown.{Shown}
 use Rattle.paper.specs.Words.{keep, allB, anyB}
 use Rattle.paper.specs.Poc.{eqZ}
 use Rattle.paper.specs.Output.{Tail, joined}
-use Rattle.paper.specs.Ledger.{Line, Event, Hand, Throw, Free, waitsAs, waits, lies, quietAt, may, off, free, upon, mayAll, uponAll, events}
+use Rattle.paper.specs.declared.Line.{Line}
+use Rattle.paper.specs.Ledger.{Event, Hand, Throw, Free, waitsAs, waits, lies, quietAt, may, off, free, upon, mayAll, uponAll, events}
 use Prim.Native.Nat.{ℕ, zero, suc}
 use mathlib.Core.Path.{_≡_, refl, sym, ap, _∙_}
 use mathlib.Core.List.{List, [], _∷_, _++_, map, append-assoc, map-append, map-map, append-nil}
@@ -45,10 +46,10 @@ runs-rest xs ys {H} {L} a =
 
 -- A test for a line that waits under the number n
 record Off (n : ℕ) (P : Line → Bool) : Type 0 where
-  named : (e : Line) → P e ≡ true → eqb n (e .serial) ≡ true
-  stays : (m : ℕ) (e : Line) → eqb m (e .serial) ≡ false → P e ≡ true → P (off m e) ≡ true
+  named : (e : Line) → P e ≡ true → eqb n (e .serial .0) ≡ true
+  stays : (m : ℕ) (e : Line) → eqb m (e .serial .0) ≡ false → P e ≡ true → P (off m e) ≡ true
   was : (m : ℕ) (e : Line) → P (off m e) ≡ true → P e ≡ true
-  apart : (m : ℕ) (e : Line) → P (off m e) ≡ true → eqb m (e .serial) ≡ false
+  apart : (m : ℕ) (e : Line) → P (off m e) ≡ true → eqb m (e .serial .0) ≡ false
 
 shrink : (w b c : Bool) → ((w && b) && c) ≡ true → (w && c) ≡ true
 shrink true true c h = h
@@ -68,18 +69,18 @@ off-waits : (n : ℕ) → Off n (waits n)
 off-waits n =
     record {
       named = λ e h. right (e .wants) _ h;
-      stays = λ m e p h. grow (e .wants) (not (eqb m (e .serial))) _ (rw p) h;
-      was = λ m e h. shrink (e .wants) (not (eqb m (e .serial))) _ h;
-      apart = λ m e h. unwanted (e .wants) (eqb m (e .serial)) _ h;
+      stays = λ m e p h. grow (e .wants) (not (eqb m (e .serial .0))) _ (rw p) h;
+      was = λ m e h. shrink (e .wants) (not (eqb m (e .serial .0))) _ h;
+      apart = λ m e h. unwanted (e .wants) (eqb m (e .serial .0)) _ h;
     }
 
 off-waitsAs : (x : Shown) → Off (x .serial .0) (waitsAs x)
 off-waitsAs x =
     record {
-      named = λ e h. left (eqb (x .serial .0) (e .serial)) _ (right (e .wants) _ h);
-      stays = λ m e p h. grow (e .wants) (not (eqb m (e .serial))) _ (rw p) h;
-      was = λ m e h. shrink (e .wants) (not (eqb m (e .serial))) _ h;
-      apart = λ m e h. unwanted (e .wants) (eqb m (e .serial)) _ h;
+      named = λ e h. left (eqb (x .serial .0) (e .serial .0)) _ (right (e .wants) _ h);
+      stays = λ m e p h. grow (e .wants) (not (eqb m (e .serial .0))) _ (rw p) h;
+      was = λ m e h. shrink (e .wants) (not (eqb m (e .serial .0))) _ h;
+      apart = λ m e h. unwanted (e .wants) (eqb m (e .serial .0)) _ h;
     }
 
 -- y may come before x as well, and then x, with the same lines after both
@@ -94,7 +95,7 @@ two-offs false a b = refl
 
 offs-commute : (n m : ℕ) (H : List Line) → map (off n) (map (off m) H) ≡ map (off m) (map (off n) H)
 offs-commute n m [] = refl
-offs-commute n m (e ∷ H) = rw (two-offs (e .wants) (not (eqb m (e .serial))) (not (eqb n (e .serial))), offs-commute n m H)
+offs-commute n m (e ∷ H) = rw (two-offs (e .wants) (not (eqb m (e .serial .0))) (not (eqb n (e .serial .0))), offs-commute n m H)
 
 module _ {n m : ℕ} {P Q : Line → Bool} (a : Off n P) (b : Off m Q) (H : List Line) (p : anyB P H ≡ true) (q : anyB Q (map (off n) H) ≡ true) where
   later-off : anyB P (map (off m) H) ≡ true
@@ -102,11 +103,11 @@ module _ {n m : ℕ} {P Q : Line → Bool} (a : Off n P) (b : Off m Q) (H : List
       any-map P (off m) H
       ∙ any-gives {X = anyB (λ (e : Line). P (off m e)) H ≡ true} (λ (e : Line). Q (off n e)) H
       (λ e h.
-      let me : m ≡ e .serial = eqb-true m (e .serial) (b .named e (b .was n e h)) in
+      let me : m ≡ e .serial .0 = eqb-true m (e .serial .0) (b .named e (b .was n e h)) in
       let away : eqb n m ≡ false = rw me (b .apart n e h) in
       any-mono P (λ (e′ : Line). P (off m e′))
       (λ e′ h′.
-      let ne : n ≡ e′ .serial = eqb-true n (e′ .serial) (a .named e′ h′) in
+      let ne : n ≡ e′ .serial .0 = eqb-true n (e′ .serial .0) (a .named e′ h′) in
       a .stays m e′ (rw (← ne) (flip n m away)) h′)
       H p)
       (sym (any-map Q (off n) H) ∙ q)
@@ -126,7 +127,7 @@ module _ (m : ℕ) (Q : Line → Bool) (x : ℕ) (H : List Line) (p : (anyB (lie
   later-free : (anyB (lies x) (map (off m) H) && allB (quietAt x) (map (off m) H)) ≡ true
   later-free =
       both (any-map (lies x) (off m) H ∙ left (anyB (lies x) H) _ p)
-      (all-map (quietAt x) (off m) H ∙ all-mono (quietAt x) (λ (e : Line). quietAt x (off m e)) (λ e h. quiet-off (e .wants) (not (eqb m (e .serial))) _ h) H (right (anyB (lies x) H) _ p))
+      (all-map (quietAt x) (off m) H ∙ all-mono (quietAt x) (λ (e : Line). quietAt x (off m e)) (λ e h. quiet-off (e .wants) (not (eqb m (e .serial .0))) _ h) H (right (anyB (lies x) H) _ p))
 
   sooner-free : anyB Q H ≡ true
   unfolding free

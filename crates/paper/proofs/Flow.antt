@@ -6,7 +6,8 @@ use Rattle.paper.specs.declared.Shown.{Shown}
 use Rattle.paper.specs.Words.{keep, allB, anyB}
 use Rattle.paper.specs.Numbers.{serialNos, surfaceNos}
 use Rattle.paper.specs.Output.{Tail}
-use Rattle.paper.specs.Ledger.{Line, Event, Hand, Throw, Free, waitsAs, waits, lies, quietAt, may, off, free, upon, mayAll, uponAll, events}
+use Rattle.paper.specs.declared.Line.{Line}
+use Rattle.paper.specs.Ledger.{Event, Hand, Throw, Free, waitsAs, waits, lies, quietAt, may, off, free, upon, mayAll, uponAll, events}
 use Rattle.paper.specs.Statement.{line}
 use Rattle.paper.specs.Accounts.{count, serials, surfaces, wanting}
 use Prim.Native.Nat.{ℕ, zero, suc, _+_, _≤_, _<_}
@@ -23,8 +24,8 @@ use Rattle.paper.proofs.Apart.{Other, Distinct, flip}
 use Rattle.paper.proofs.Moves.{same-eqb, wanting-is}
 
 pub record Off2 (e x : Line) : Type 0 where
-  pub serial : eqb (e .serial) (x .serial) ≡ false
-  pub surface : eqb (e .surface) (x .surface) ≡ false
+  pub serial : eqb (e .serial .0) (x .serial .0) ≡ false
+  pub surface : eqb (e .surface .0) (x .surface .0) ≡ false
 
 -- lines of different serials and different surfaces
 abbrev pub Sep : List Line → Type 0
@@ -60,14 +61,14 @@ count-append n [] ys = omega arith
 count-append n (x ∷ xs) ys = omega (arith, count-append n xs ys)
 
 -- a line that is not n is not changed
-off-other : (n : ℕ) (e : Line) → eqb n (e .serial) ≡ false → off n e ≡ e
-off-other n e h = wanting-is e (n-and (e .wants) (eqb n (e .serial)) h)
+off-other : (n : ℕ) (e : Line) → eqb n (e .serial .0) ≡ false → off n e ≡ e
+off-other n e h = wanting-is e (n-and (e .wants) (eqb n (e .serial .0)) h)
   where
     n-and : (w b : Bool) → b ≡ false → (w && not b) ≡ w
     n-and true b p = rw p
     n-and false b p = refl
 
-offs-other : (n : ℕ) (H : List Line) → All (λ (e : Line). eqb n (e .serial) ≡ false) H → map (off n) H ≡ H
+offs-other : (n : ℕ) (H : List Line) → All (λ (e : Line). eqb n (e .serial .0) ≡ false) H → map (off n) H ≡ H
 offs-other n [] a = refl
 offs-other n (e ∷ H) a = rw (off-other n e (a .0), offs-other n H (a .1))
 
@@ -79,7 +80,7 @@ any-at f P (e ∷ H) a k h = split (f e) (λ p. k e (a .0) p) (λ p. any-at f P 
 abbrev W : ℕ → List Line → ℕ
 W n H = count n (serials (wanting H))
 
-wants-cons : (n : ℕ) (e : Line) (H : List Line) → W n (e ∷ H) ≡ cond (e .wants) (hit n (e .serial)) 0 + W n H
+wants-cons : (n : ℕ) (e : Line) (H : List Line) → W n (e ∷ H) ≡ cond (e .wants) (hit n (e .serial .0)) 0 + W n H
 unfolding wanting keep count
 wants-cons n e H = split (e .wants) (λ w. rw w) (λ w. rw w (omega arith))
 
@@ -95,19 +96,19 @@ count-off n m (e ∷ H) d h =
     split (waits m e)
     (λ p.
     let w : e .wants ≡ true = left (e .wants) _ p in
-    let q : m ≡ e .serial = eqb-true m (e .serial) (right (e .wants) _ p) in
+    let q : m ≡ e .serial .0 = eqb-true m (e .serial .0) (right (e .wants) _ p) in
     let s : map (off m) H ≡ H = offs-other m H (all-more (Off2 e) _ (λ x o. rw q (o .serial)) H (d .0)) in
-    let a : W n (e ∷ H) ≡ hit n (e .serial) + W n H = wants-cons n e H ∙ rw w in
-    let z : (e .wants && not (eqb m (e .serial))) ≡ false = off-now (e .wants) (eqb m (e .serial)) (right (e .wants) _ p) in
-    let b : W n (map (off m) (e ∷ H)) ≡ 0 + W n (map (off m) H) = wants-cons n (off m e) (map (off m) H) ∙ ap (λ (t : Bool). cond t (hit n (e .serial)) 0 + W n (map (off m) H)) z in
+    let a : W n (e ∷ H) ≡ hit n (e .serial .0) + W n H = wants-cons n e H ∙ rw w in
+    let z : (e .wants && not (eqb m (e .serial .0))) ≡ false = off-now (e .wants) (eqb m (e .serial .0)) (right (e .wants) _ p) in
+    let b : W n (map (off m) (e ∷ H)) ≡ 0 + W n (map (off m) H) = wants-cons n (off m e) (map (off m) H) ∙ ap (λ (t : Bool). cond t (hit n (e .serial .0)) 0 + W n (map (off m) H)) z in
     let c : W n (map (off m) H) ≡ W n H = ap (W n) s in
-    let k : hit n m ≡ hit n (e .serial) = ap (hit n) q in
+    let k : hit n m ≡ hit n (e .serial .0) = ap (hit n) q in
     omega (arith, a, b, c, k))
     (λ p.
     let rest : anyB (waits m) H ≡ true = rw p at h in
-    let o : eqb m (e .serial) ≡ false = any-at (waits m) (Off2 e) H (d .0) (λ x u k. let q : m ≡ x .serial = eqb-true m (x .serial) (right (x .wants) _ k) in rw q (flip (e .serial) (x .serial) (u .serial))) rest in
+    let o : eqb m (e .serial .0) ≡ false = any-at (waits m) (Off2 e) H (d .0) (λ x u k. let q : m ≡ x .serial .0 = eqb-true m (x .serial .0) (right (x .wants) _ k) in rw q (flip (e .serial .0) (x .serial .0) (u .serial))) rest in
     let a = wants-cons n e H in
-    let b : W n (map (off m) (e ∷ H)) ≡ cond (e .wants) (hit n (e .serial)) 0 + W n (map (off m) H) = ap (λ (x : Line). W n (x ∷ map (off m) H)) (off-other m e o) ∙ wants-cons n e (map (off m) H) in
+    let b : W n (map (off m) (e ∷ H)) ≡ cond (e .wants) (hit n (e .serial .0)) 0 + W n (map (off m) H) = ap (λ (x : Line). W n (x ∷ map (off m) H)) (off-other m e o) ∙ wants-cons n e (map (off m) H) in
     let c = count-off n m H (d .1) rest in
     omega (arith, a, b, c))
 
@@ -121,7 +122,7 @@ count-free n x (e ∷ H) q =
     (λ p.
     let w : e .wants ≡ false = is-quiet (e .wants) (lies x e) p (left (quietAt x e) _ q) in
     rw p (k ∙ sym (wants-cons n e H ∙ rw w (omega arith))))
-    (λ p. rw p (wants-cons n e (keep (λ (y : Line). not (lies x y)) H) ∙ ap (λ (j : ℕ). cond (e .wants) (hit n (e .serial)) 0 + j) k ∙ sym (wants-cons n e H)))
+    (λ p. rw p (wants-cons n e (keep (λ (y : Line). not (lies x y)) H) ∙ ap (λ (j : ℕ). cond (e .wants) (hit n (e .serial .0)) 0 + j) k ∙ sym (wants-cons n e H)))
   where
     is-quiet : (w b : Bool) → b ≡ true → (not w || not b) ≡ true → w ≡ false
     is-quiet true b p h = not-both (not b) h (rw p)
@@ -132,7 +133,7 @@ abbrev S : ℕ → List Line → ℕ
 S y H = count y (surfaces H)
 
 surf-off : (y n : ℕ) (H : List Line) → S y (map (off n) H) ≡ S y H
-surf-off y n H = ap (count y) (map-map (λ (e : Line). e .surface) (off n) H)
+surf-off y n H = ap (count y) (map-map (λ (e : Line). e .surface .0) (off n) H)
 
 free-other : (x : ℕ) (H : List Line) → All (λ (e : Line). lies x e ≡ false) H → free x H ≡ H
 unfolding free
@@ -146,7 +147,7 @@ free-kept : (x : ℕ) (e : Line) (H : List Line) → lies x e ≡ false → free
 unfolding free keep
 free-kept x e H p = rw p
 
-surf-cons : (y : ℕ) (e : Line) (H : List Line) → S y (e ∷ H) ≡ hit y (e .surface) + S y H
+surf-cons : (y : ℕ) (e : Line) (H : List Line) → S y (e ∷ H) ≡ hit y (e .surface .0) + S y H
 unfolding count
 surf-cons y e H = refl
 
@@ -156,15 +157,15 @@ surf-free y x [] d h = not-both false h refl
 surf-free y x (e ∷ H) d h =
     split (lies x e)
     (λ p.
-    let q : x ≡ e .surface = eqb-true x (e .surface) p in
+    let q : x ≡ e .surface .0 = eqb-true x (e .surface .0) p in
     let a : S y (free x (e ∷ H)) ≡ S y H = ap (S y) (free-gone x e H p ∙ free-other x H (all-more (Off2 e) _ (λ z o. rw q (o .surface)) H (d .0))) in
-    let b : S y (e ∷ H) ≡ hit y (e .surface) + S y H = surf-cons y e H in
-    let k : hit y x ≡ hit y (e .surface) = ap (hit y) q in
+    let b : S y (e ∷ H) ≡ hit y (e .surface .0) + S y H = surf-cons y e H in
+    let k : hit y x ≡ hit y (e .surface .0) = ap (hit y) q in
     omega (arith, a, b, k))
     (λ p.
     let rest : anyB (lies x) H ≡ true = rw p at h in
-    let a : S y (free x (e ∷ H)) ≡ hit y (e .surface) + S y (free x H) = ap (S y) (free-kept x e H p) ∙ surf-cons y e (free x H) in
-    let b : S y (e ∷ H) ≡ hit y (e .surface) + S y H = surf-cons y e H in
+    let a : S y (free x (e ∷ H)) ≡ hit y (e .surface .0) + S y (free x H) = ap (S y) (free-kept x e H p) ∙ surf-cons y e (free x H) in
+    let b : S y (e ∷ H) ≡ hit y (e .surface .0) + S y H = surf-cons y e H in
     let c = surf-free y x H (d .1) rest in
     omega (arith, a, b, c))
 
@@ -182,7 +183,7 @@ freedBy (Free x) = x .0 ∷ []
 flow-one : (n : ℕ) (x : Event) (H : List Line) → Sep H → may x H ≡ true → W n H ≡ W n (upon x H) + count n (takenBy x)
 unfolding may upon takenBy count
 flow-one n (Hand x) H d m =
-    let k = count-off n (x .serial .0) H d (B.any-mono (waitsAs x) (waits (x .serial .0)) (λ e h. both (left (e .wants) _ h) (left (eqb (x .serial .0) (e .serial)) _ (right (e .wants) _ h))) H m) in
+    let k = count-off n (x .serial .0) H d (B.any-mono (waitsAs x) (waits (x .serial .0)) (λ e h. both (left (e .wants) _ h) (left (eqb (x .serial .0) (e .serial .0)) _ (right (e .wants) _ h))) H m) in
     omega (arith, k)
 flow-one n (Throw y) H d m = let k = count-off n (y .0) H d m in omega (arith, k)
 flow-one n (Free x) H d m = let k = count-free n (x .0) H (right (anyB (lies (x .0)) H) _ m) in omega (arith, k)
@@ -277,18 +278,18 @@ wants-append n (e ∷ H) K =
     split (e .wants) (λ w. rw w (omega (arith, k))) (λ w. rw w k)
 
 pub surfaces-append : (y : ℕ) (H K : List Line) → count y (surfaces (H ++ K)) ≡ count y (surfaces H) + count y (surfaces K)
-surfaces-append y H K = ap (count y) (map-append (λ (e : Line). e .surface) H K) ∙ count-append y (surfaces H) (surfaces K)
+surfaces-append y H K = ap (count y) (map-append (λ (e : Line). e .surface .0) H K) ∙ count-append y (surfaces H) (surfaces K)
 
 -- at most one line lies on a surface
 pub sep-once : (y : ℕ) (H : List Line) → Sep H → count y (surfaces H) ≤ 1
 unfolding count
 sep-once y [] d = omega arith
 sep-once y (e ∷ H) d =
-    split (eqb y (e .surface))
-    (λ p. let q : y ≡ e .surface = eqb-true y (e .surface) p in rw p (omega (arith, no-more y H (all-more (Off2 e) (λ (x : Line). eqb y (x .surface) ≡ false) (λ x o. rw q (o .surface)) H (d .0)))))
+    split (eqb y (e .surface .0))
+    (λ p. let q : y ≡ e .surface .0 = eqb-true y (e .surface .0) p in rw p (omega (arith, no-more y H (all-more (Off2 e) (λ (x : Line). eqb y (x .surface .0) ≡ false) (λ x o. rw q (o .surface)) H (d .0)))))
     (λ p. rw p (omega (arith, sep-once y H (d .1))))
   where
-    no-more : (y : ℕ) (H : List Line) → All (λ (x : Line). eqb y (x .surface) ≡ false) H → count y (surfaces H) ≡ 0
+    no-more : (y : ℕ) (H : List Line) → All (λ (x : Line). eqb y (x .surface .0) ≡ false) H → count y (surfaces H) ≡ 0
     no-more y [] a = refl
     no-more y (x ∷ H) a = rw (a .0) (omega (arith, no-more y H (a .1)))
 

@@ -21,7 +21,8 @@ use Rattle.paper.specs.State.{Session, isMarked, isShortTerm, modulus}
 use Rattle.paper.specs.Sets.{Wishes, usedBy, unusedBy, isIn, marked, marksOf, firstOf, longMatch, shortMatch, markAll, markOnly, inOrder, longSet, shortSet, longMarked, setsOf, unmarkedIf}
 use Rattle.paper.specs.Output.{Moved, still, andThen, turns, lowest, leave, stay, done, handFound, handOut, cleared, emptied, inUse, removed, handWhile, due, beforeDecoding}
 use Rattle.paper.specs.Begin.{wishes, sets, unmarkedStore, markedStore, startsOver, roomMade}
-use Rattle.paper.specs.Ledger.{Line, names}
+use Rattle.paper.specs.declared.Line.{Line}
+use Rattle.paper.specs.Ledger.{names}
 use Rattle.paper.specs.Statement.{line}
 use Rattle.paper.specs.declared.Mark.the-variants as Mark
 use Rattle.paper.specs.declared.Found.the-variants.{Nothing, The}
@@ -208,8 +209,8 @@ names-members ns ps a =
     all-true _ ns
     (all-more (Member ps) _
     (λ n m.
-    ⊎-elim {C = (sameSerial n missing || anyB (λ (e : Line). eqb (n .0) (e .serial)) (map line ps)) ≡ true} (λ e. or-left (sameSerial n missing) _ (eq-eqb (n .0) 4294967295 (ap (λ (x : Serial). x .0) e)))
-    (λ h. or-right (sameSerial n missing) _ (B.any-map (λ (e : Line). eqb (n .0) (e .serial)) line ps ∙ B.any-mono (marks n) _ (λ p k. left (sameSerial n (p .serial)) _ k) ps h)) m)
+    ⊎-elim {C = (sameSerial n missing || anyB (λ (e : Line). eqb (n .0) (e .serial .0)) (map line ps)) ≡ true} (λ e. or-left (sameSerial n missing) _ (eq-eqb (n .0) 4294967295 (ap (λ (x : Serial). x .0) e)))
+    (λ h. or-right (sameSerial n missing) _ (B.any-map (λ (e : Line). eqb (n .0) (e .serial .0)) line ps ∙ B.any-mono (marks n) _ (λ p k. left (sameSerial n (p .serial)) _ k) ps h)) m)
     ns a)
 
 -- After step 5 the sets name missing entries and stored pictures

@@ -8,7 +8,8 @@ use Rattle.paper.specs.Words.{keep, allB, anyB}
 use Rattle.paper.specs.State.{isMarked}
 use Rattle.paper.specs.Poc.{eqZ}
 use Rattle.paper.specs.Output.{Tail, joined, quiet, Moved, still, andThen, turns, below, lowest, shown, done, leave, stay, handFound, handOut, cleared, emptied, inUse, removed, handWhile}
-use Rattle.paper.specs.Ledger.{Line, Event, Hand, Throw, Free, waitsAs, waits, lies, quietAt, may, off, free, upon, mayAll, uponAll, events}
+use Rattle.paper.specs.declared.Line.{Line}
+use Rattle.paper.specs.Ledger.{Event, Hand, Throw, Free, waitsAs, waits, lies, quietAt, may, off, free, upon, mayAll, uponAll, events}
 use Rattle.paper.specs.Statement.{line}
 use Prim.Native.Nat.{ℕ, zero, suc}
 use mathlib.Core.Path.{_≡_, refl, sym, ap, _∙_, subst}

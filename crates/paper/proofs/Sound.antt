@@ -28,7 +28,8 @@ use Rattle.paper.specs.RefLists.{ownOf, candidates0, candidates1, placed
 use Rattle.paper.specs.Calls.{raised, stored, finished, drained, drainedNow, dropped, discarded, finishedSession, drainedSession, configuredSession, discardedSession, abandonedSession, endedSession}
 use Rattle.paper.specs.Replies.{Reply, Begun}
 use Rattle.paper.specs.Step.{Decided, refused, accepted, begunOf, heldBy, decideOf}
-use Rattle.paper.specs.Ledger.{Line, Ledger, Event, mayAll, uponAll, events, none, names, lies, landed, abandoned, unchanged, lineOf, tell}
+use Rattle.paper.specs.declared.Line.{Line}
+use Rattle.paper.specs.Ledger.{Ledger, Event, mayAll, uponAll, events, none, names, lies, landed, abandoned, unchanged, lineOf, tell}
 use Rattle.paper.specs.Statement.{line, currentLine, ledgerOf}
 use Rattle.paper.specs.declared.Prev.the-variants as Prev
 use Rattle.paper.specs.declared.Now.the-variants as Now
@@ -128,7 +129,7 @@ any-last f (y ∷ H) x e = or-right (f y) _ (any-last f H x e)
 
 -- what a set or list may name, one by one
 abbrev Names : List Line → Serial → Type 0
-Names H n = (sameSerial n missing || anyB (λ (x : Line). eqb (n .0) (x .serial)) H) ≡ true
+Names H n = (sameSerial n missing || anyB (λ (x : Line). eqb (n .0) (x .serial .0)) H) ≡ true
 
 names-all : (ns : List Serial) (H : List Line) → names ns H ≡ true → All (Names H) ns
 unfolding names
@@ -427,11 +428,11 @@ module _ (s : Session) (r : List ℕ) (i : Sound s) (bytes : allB (λ (b : ℕ).
     refs-ok : All Ok (allRefs (s .refs))
     refs-ok =
         all-more (Names (map line (s .store))) Ok
-        (λ n h. wider (sameSerial n missing) (λ (x : Line). eqb (n .0) (x .serial)) (map line (s .store)) (currentLine c ∷ []) h)
+        (λ n h. wider (sameSerial n missing) (λ (x : Line). eqb (n .0) (x .serial .0)) (map line (s .store)) (currentLine c ∷ []) h)
         (allRefs (s .refs)) (names-all (allRefs (s .refs)) (map line (s .store)) (i .named))
 
     last-ok : Ok (c .serial)
-    last-ok = or-right (sameSerial (c .serial) missing) _ (any-last (λ (x : Line). eqb (c .serial .0) (x .serial)) (map line (s .store)) (currentLine c) (same-eqb (c .serial .0)))
+    last-ok = or-right (sameSerial (c .serial) missing) _ (any-last (λ (x : Line). eqb (c .serial .0) (x .serial .0)) (map line (s .store)) (currentLine c) (same-eqb (c .serial .0)))
 
     own-ok : (own : Bool) → All Ok (ownOf own (c .serial))
     own-ok own = by-case (All Ok) own (c .serial ∷ []) [] (λ _. (last-ok, tt)) (λ _. tt)

@@ -9,7 +9,8 @@ use Rattle.paper.specs.Numbers.{u32, serialNos, surfaceNos}
 use Rattle.paper.specs.Output.{Tail}
 use Rattle.paper.specs.declared.Shown.{Shown}
 use Rattle.paper.specs.Replies.{Begun, Reply}
-use Rattle.paper.specs.Ledger.{Line, Ledger, Exchange, readReply, lineOf}
+use Rattle.paper.specs.declared.Line.{Line}
+use Rattle.paper.specs.Ledger.{Ledger, Exchange, readReply, lineOf}
 
 -- how often n stands in a list
 unfoldable pub count : ℕ → List ℕ → ℕ
@@ -17,10 +18,10 @@ count n [] = 0
 count n (m ∷ ms) = cond (eqb n m) 1 0 + count n ms
 
 abbrev pub serials : List Line → List ℕ
-serials H = map (λ (e : Line). e .serial) H
+serials H = map (λ (e : Line). e .serial .0) H
 
 abbrev pub surfaces : List Line → List ℕ
-surfaces H = map (λ (e : Line). e .surface) H
+surfaces H = map (λ (e : Line). e .surface .0) H
 
 -- the lines that want to be shown
 unfoldable pub wanting : List Line → List Line

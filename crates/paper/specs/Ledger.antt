@@ -8,6 +8,7 @@ use lib.IntN.{ℤ}
 use Rattle.paper.specs.declared.Serial.{Serial}
 use Rattle.paper.specs.declared.Surface.{Surface}
 use Rattle.paper.specs.declared.Shown.{Shown}
+use Rattle.paper.specs.declared.Line.{Line}
 use Rattle.paper.specs.Words.{keep, allB, anyB}
 use Rattle.paper.specs.Numbers.{u8, u16, u32, i32, bit, missing, aSerial, aSurface, sameSerial}
 use Rattle.paper.specs.Poc.{eqZ}
@@ -75,11 +76,6 @@ readReply bs =
 
 -- The ledger: a line for each picture whose surface is unreleased since its begin.
 -- `wants`: it was begun with output flag 1, and was neither handed out nor thrown away.
-pub record Line : Type 0 where
-  pub serial : ℕ
-  pub surface : ℕ
-  pub poc : ℤ
-  pub wants : Bool
 
 -- the pictures stored; the current one, or none; how many were begun; whether all was in order so far
 pub record Ledger : Type 0 where
@@ -98,13 +94,13 @@ pub data Event : Type 0 where
   Free : Surface → Event
 
 abbrev pub waitsAs : Shown → Line → Bool
-waitsAs x e = e .wants && (eqb (x .serial .0) (e .serial) && (eqb (x .surface .0) (e .surface) && eqZ (x .poc) (e .poc)))
+waitsAs x e = e .wants && (eqb (x .serial .0) (e .serial .0) && (eqb (x .surface .0) (e .surface .0) && eqZ (x .poc) (e .poc)))
 
 abbrev pub waits : ℕ → Line → Bool
-waits n e = e .wants && eqb n (e .serial)
+waits n e = e .wants && eqb n (e .serial .0)
 
 abbrev pub lies : ℕ → Line → Bool
-lies x e = eqb x (e .surface)
+lies x e = eqb x (e .surface .0)
 
 abbrev pub quietAt : ℕ → Line → Bool
 quietAt x e = not (e .wants) || not (lies x e)
@@ -116,7 +112,7 @@ may (Throw n) H = anyB (waits (n .0)) H
 may (Free x) H = anyB (lies (x .0)) H && allB (quietAt (x .0)) H
 
 abbrev pub off : ℕ → Line → Line
-off n e = record { serial = e .serial; surface = e .surface; poc = e .poc; wants = e .wants && not (eqb n (e .serial)) }
+off n e = record { serial = e .serial; surface = e .surface; poc = e .poc; wants = e .wants && not (eqb n (e .serial .0)) }
 
 unfoldable pub free : ℕ → List Line → List Line
 free x H = keep (λ (e : Line). not (lies x e)) H
@@ -143,10 +139,10 @@ none (x ∷ xs) = false
 
 -- a set or list names only missing entries and pictures of these lines
 unfoldable pub names : List Serial → List Line → Bool
-names ns H = allB (λ (n : Serial). sameSerial n missing || anyB (λ (e : Line). eqb (n .0) (e .serial)) H) ns
+names ns H = allB (λ (n : Serial). sameSerial n missing || anyB (λ (e : Line). eqb (n .0) (e .serial .0)) H) ns
 
 abbrev pub lineOf : List ℕ → Begun → Line
-lineOf r b = record { serial = b .serial .0; surface = u32 r 9; poc = b .poc; wants = b .output }
+lineOf r b = record { serial = b .serial; surface = aSurface (u32 r 9); poc = b .poc; wants = b .output }
 
 -- finish, drain, configure, discard: the current picture goes to the stored ones, then the tail.
 -- Drain, configure and discard leave nothing; finish has a current picture. Only begin, discard and abandon throw away.

@@ -13,7 +13,8 @@ use Rattle.paper.specs.State.{Session, fresh, onNow}
 use Rattle.paper.specs.Output.{Tail}
 use Rattle.paper.specs.Replies.{Begun, Reply}
 use Rattle.paper.specs.Step.{Call, stepOf, sessionAfter, afterCalls, answeredOf}
-use Rattle.paper.specs.Ledger.{Line, Ledger, Exchange, linesOf, names, blank, told, readReply}
+use Rattle.paper.specs.declared.Line.{Line}
+use Rattle.paper.specs.Ledger.{Ledger, Exchange, linesOf, names, blank, told, readReply}
 use Rattle.paper.specs.Accounts.{Accounts, count, surfaces, begunAll, releasedAll}
 
 -- the exchanges of a session with some records
@@ -23,10 +24,10 @@ exchanges s (r ∷ rs) = record { said = r; answered = stepOf s r replyLimit .by
 
 -- what a session holds, as the lines of a ledger
 abbrev pub line : Picture → Line
-line p = record { serial = p .serial .0; surface = p .surface .0; poc = p .poc; wants = p .waiting }
+line p = record { serial = p .serial; surface = p .surface; poc = p .poc; wants = p .waiting }
 
 abbrev pub currentLine : Current → Line
-currentLine c = record { serial = c .serial .0; surface = c .surface .0; poc = c .poc; wants = c .output }
+currentLine c = record { serial = c .serial; surface = c .surface; poc = c .poc; wants = c .output }
 
 abbrev pub ledgerOf : Session → Ledger
 ledgerOf s =
