@@ -1,35 +1,22 @@
--- The accounts of any session from fresh.
+-- The accounts of any exchanges whose ledger is in order, whoever wrote the replies.
 use Prim.Native.Nat.{ℕ, zero, suc, _+_, _≤_, _<_}
 use mathlib.Core.Path.{_≡_, refl, sym, ap, _∙_, subst}
-use mathlib.Core.Logic.{_⊎_, inl, inr, ⊎-elim}
 use mathlib.Core.List.{List, [], _∷_, _++_, map, append-nil, map-append}
 use mathlib.Core.Bool.{Bool, true, false, cond, not, _&&_, _||_}
 use native.Mathlib.Omega.{arith}
-use lib.Dec.{eqb, ltb}
-use borrow.Author.Tests.{eqb-true, eqb-false, eq-eqb, ne-eqb}
-use Rattle.paper.specs.declared.Picture.{Picture}
+use lib.Dec.{eqb}
+use borrow.Author.Tests.{eqb-true}
 use Rattle.paper.specs.declared.Shown.{Shown}
-use Rattle.paper.specs.declared.Current.{Current}
-use Rattle.paper.specs.declared.Now.{Now}
-use Rattle.paper.specs.Words.{keep, allB, anyB}
-use Rattle.paper.specs.Numbers.{u32, serialNos, surfaceNos}
-use Rattle.paper.specs.State.{Session, fresh, onNow}
-use Rattle.paper.specs.Sets.{inOrder}
-use Rattle.paper.specs.Output.{Tail}
-use Rattle.paper.specs.Calls.{stored}
-use Rattle.paper.specs.Replies.{Begun, Reply}
-use Rattle.paper.specs.Step.{stepOf, sessionAfter}
 use Rattle.paper.specs.declared.Line.{Line}
-use Rattle.paper.specs.Ledger.{linesOf, Ledger, Event, Exchange, blank, lies, names, mayAll, uponAll, events, none, landed, abandoned, unchanged, lineOf, tell, told, readReply}
-use Rattle.paper.specs.Statement.{exchanges, line, currentLine, ledgerOf, Bytes}
+use Rattle.paper.specs.Words.{keep, anyB}
+use Rattle.paper.specs.Numbers.{u32, serialNos, surfaceNos}
+use Rattle.paper.specs.Output.{Tail}
+use Rattle.paper.specs.Replies.{Begun, Reply}
+use Rattle.paper.specs.Ledger.{linesOf, Ledger, Event, Exchange, blank, lies, mayAll, uponAll, events, none, landed, abandoned, unchanged, lineOf, tell, heard, hear, told, readReply}
 use Rattle.paper.specs.Accounts.{count, serials, surfaces, wanting, begunIn, tailIn, begunAll, handedAll, thrownAll, releasedAll, Accounts}
-use Rattle.paper.specs.declared.Now.the-variants as Now
-use Rattle.paper.proofs.Bools.{both, left, right, split, not-both, by-case}
-use Rattle.paper.proofs.Every.{All}
-use Rattle.paper.proofs.Apart.{Distinct}
-use Rattle.paper.proofs.Flow.{Sep, sep-lines, sep-first, sep-last, sep-once, hit, count-append, tail-wants, tail-surfaces, wants-append, surfaces-append}
-use Rattle.paper.proofs.Sound.{Sound, pictures}
-use Rattle.paper.proofs.Demand3.{told-step, told-all, sound-step, sound-fresh, sound-after}
+use Rattle.paper.proofs.Bools.{left, right, split, by-case}
+use Rattle.paper.proofs.Flow.{Sep, sep-first, sep-last, sep-once, hit, count-append, tail-wants, tail-surfaces, wants-append, surfaces-append}
+use Rattle.paper.proofs.Tidy.{Tidy, is-none, tidy-blank, tidy-hear, ok-told}
 
 abbrev handedIn : Reply → List ℕ
 handedIn x = map (λ (p : Shown). p .serial .0) (tailIn x .handed)
@@ -38,11 +25,6 @@ handedIn x = map (λ (p : Shown). p .serial .0) (tailIn x .handed)
 record Flow (L M : Ledger) (r : List ℕ) (x : Reply) : Type 0 where
   wants : (n : ℕ) → count n (serials (wanting (linesOf L))) + count n (serials (wanting (begunIn r x))) ≡ count n (serials (wanting (linesOf M))) + (count n (handedIn x) + count n (serialNos (tailIn x .thrown)))
   held : (y : ℕ) → count y (surfaces (linesOf L)) + count y (surfaces (begunIn r x)) ≡ count y (surfaces (linesOf M)) + count y (surfaceNos (tailIn x .released))
-
-pub is-none : {A : Type 0} (xs : List A) → none xs ≡ true → xs ≡ []
-unfolding none
-is-none [] e = refl
-is-none (x ∷ xs) e = not-both false e refl
 
 module _ (L : Ledger) (r : List ℕ) (d : Sep (linesOf L)) where
   flow-unchanged : (kind : ℕ) (t : Tail) → unchanged L t .ok ≡ true → Flow L (unchanged L t) r (Reply.Done kind t)
@@ -134,50 +116,36 @@ counted n L r (Reply.Started b t) o =
     more (let k = ap (hit n) e in omega (arith, k)) refl
 counted n L r (Reply.Listed l0 l1) o = same refl refl
 
--- the lines of a session are apart
-pub sep-session : (s : Session) → Sound s → Sep (linesOf (ledgerOf s))
-sep-session s i = go (s .current) (i .distinct)
-  where
-    go : (x : Now) → Distinct (s .store ++ onNow x [] (λ (c : Current). stored c ∷ [])) → Sep (map line (s .store) ++ onNow x [] (λ (c : Current). currentLine c ∷ []))
-    go Now.Idle e = rw (append-nil (map line (s .store))) (sep-lines (s .store) (rw (append-nil (s .store)) at e))
-    go (Now.Is c) e = rw (map-append line (s .store) (stored c ∷ [])) at (sep-lines (s .store ++ (stored c ∷ [])) e)
-
--- from any session on
-pub record From (s : Session) (rs : List (List ℕ)) : Type 0 where
-  pub wants : (n : ℕ) → count n (serials (wanting (linesOf (ledgerOf s)))) + count n (serials (wanting (begunAll (exchanges s rs))))
-      ≡ count n (serials (wanting (linesOf (ledgerOf (sessionAfter s rs))))) + (count n (handedAll (exchanges s rs)) + count n (thrownAll (exchanges s rs)))
-  pub held : (y : ℕ) → count y (surfaces (linesOf (ledgerOf s))) + count y (surfaces (begunAll (exchanges s rs)))
-      ≡ count y (surfaces (linesOf (ledgerOf (sessionAfter s rs)))) + count y (releasedAll (exchanges s rs))
-  pub once : (n : ℕ) → (count n (serials (begunAll (exchanges s rs))) ≤ 1) × (n < s .next → count n (serials (begunAll (exchanges s rs))) ≡ 0)
-
 serials-append : (n : ℕ) (H K : List Line) → count n (serials (H ++ K)) ≡ count n (serials H) + count n (serials K)
 serials-append n H K = ap (count n) (map-append (λ (e : Line). e .serial .0) H K) ∙ count-append n (serials H) (serials K)
 
-from-none : (s : Session) → From s []
-unfolding exchanges sessionAfter begunAll handedAll thrownAll releasedAll count wanting keep
-from-none s = record { wants = λ n. omega arith; held = λ y. omega arith; once = λ n. (omega arith, λ h. omega arith) }
+-- from any ledger on
+pub record From (L : Ledger) (xs : List Exchange) : Type 0 where
+  pub wants : (n : ℕ) → count n (serials (wanting (linesOf L))) + count n (serials (wanting (begunAll xs)))
+      ≡ count n (serials (wanting (linesOf (told L xs)))) + (count n (handedAll xs) + count n (thrownAll xs))
+  pub held : (y : ℕ) → count y (surfaces (linesOf L)) + count y (surfaces (begunAll xs)) ≡ count y (surfaces (linesOf (told L xs))) + count y (releasedAll xs)
+  pub once : (n : ℕ) → (count n (serials (begunAll xs)) ≤ 1) × (n < L .begun → count n (serials (begunAll xs)) ≡ 0)
+  pub tidy : Tidy (told L xs)
 
-module _ (s : Session) (r : List ℕ) (rs : List (List ℕ)) (i : Sound s) (b : allB (λ (x : ℕ). ltb x 256) r ≡ true) where
-  abbrev pub answer : Reply
-  answer = readReply (stepOf s r 512 .bytes)
+from-none : (L : Ledger) → Tidy L → From L []
+unfolding told begunAll handedAll thrownAll releasedAll count wanting keep
+from-none L i = record { wants = λ n. omega arith; held = λ y. omega arith; once = λ n. (omega arith, λ h. omega arith); tidy = i }
 
-  abbrev pub after : Session
-  after = stepOf s r 512 .next
+module _ (L : Ledger) (x : Exchange) (xs : List Exchange) (i : Tidy L) (o : hear L (x .said) (readReply (x .answered)) .ok ≡ true) where
+  abbrev answer : Reply
+  answer = readReply (x .answered)
 
-  pub step-is : tell (ledgerOf s) r answer ≡ ledgerOf after
-  step-is = told-step s r i b
+  abbrev r : List ℕ
+  r = x .said
 
-  pub step-ok : tell (ledgerOf s) r answer .ok ≡ true
-  step-ok = ap (λ (L : Ledger). L .ok) step-is
+  told-ok : tell L r answer .ok ≡ true
+  told-ok = right (heard r answer) _ o
 
-  step-flow : Flow (ledgerOf s) (ledgerOf after) r answer
-  step-flow = subst (λ (M : Ledger). Flow (ledgerOf s) M r answer) step-is (flow (ledgerOf s) r (sep-session s i) answer step-ok)
+  step-flow : Flow L (tell L r answer) r answer
+  step-flow = flow L r (i .apart) answer told-ok
 
-  step-counted : (n : ℕ) → Counted n (ledgerOf s) (ledgerOf after) r answer
-  step-counted n = subst (λ (M : Ledger). Counted n (ledgerOf s) M r answer) step-is (counted n (ledgerOf s) r answer step-ok)
-
-  from-more : From after rs → From s (r ∷ rs)
-  unfolding exchanges sessionAfter begunAll handedAll thrownAll releasedAll
+  from-more : From (hear L r answer) xs → From L (x ∷ xs)
+  unfolding told begunAll handedAll thrownAll releasedAll
   from-more k =
       record {
         wants =
@@ -186,47 +154,46 @@ module _ (s : Session) (r : List ℕ) (rs : List (List ℕ)) (i : Sound s) (b : 
               arith,
               step-flow .wants n,
               k .wants n,
-              wants-append n (begunIn r answer) (begunAll (exchanges after rs)),
-              count-append n (handedIn answer) (handedAll (exchanges after rs)),
-              count-append n (serialNos (tailIn answer .thrown)) (thrownAll (exchanges after rs)),
+              wants-append n (begunIn r answer) (begunAll xs),
+              count-append n (handedIn answer) (handedAll xs),
+              count-append n (serialNos (tailIn answer .thrown)) (thrownAll xs),
             );
         held =
             λ y.
-            omega
-            (arith, step-flow .held y, k .held y, surfaces-append y (begunIn r answer) (begunAll (exchanges after rs)), count-append y (surfaceNos (tailIn answer .released)) (releasedAll (exchanges after rs)));
-        once = λ n. counts n (step-counted n);
+            omega (arith, step-flow .held y, k .held y, surfaces-append y (begunIn r answer) (begunAll xs), count-append y (surfaceNos (tailIn answer .released)) (releasedAll xs));
+        once = λ n. counts n (counted n L r answer told-ok);
+        tidy = k .tidy;
       }
     where
-      counts : (n : ℕ) → Counted n (ledgerOf s) (ledgerOf after) r answer
-          → (count n (serials (begunIn r answer ++ begunAll (exchanges after rs))) ≤ 1) × (n < s .next → count n (serials (begunIn r answer ++ begunAll (exchanges after rs))) ≡ 0)
-      counts n (same e f) = (omega (arith, serials-append n (begunIn r answer) (begunAll (exchanges after rs)), k .once n .0), λ h. let z = k .once n .1 (omega arith) in omega (arith, serials-append n (begunIn r answer) (begunAll (exchanges after rs))))
+      counts : (n : ℕ) → Counted n L (tell L r answer) r answer
+          → (count n (serials (begunIn r answer ++ begunAll xs)) ≤ 1) × (n < L .begun → count n (serials (begunIn r answer ++ begunAll xs)) ≡ 0)
+      counts n (same e f) = (omega (arith, serials-append n (begunIn r answer) (begunAll xs), k .once n .0), λ h. let z = k .once n .1 (omega arith) in omega (arith, serials-append n (begunIn r answer) (begunAll xs)))
       counts n (more e f) =
-          split (eqb n (s .next))
+          split (eqb n (L .begun))
           (λ p.
-          let q : n ≡ s .next = eqb-true n (s .next) p in
+          let q : n ≡ L .begun = eqb-true n (L .begun) p in
           let e1 : count n (serials (begunIn r answer)) ≡ 1 = e ∙ rw p in
           let z = k .once n .1 (omega arith) in
-          (omega (arith, serials-append n (begunIn r answer) (begunAll (exchanges after rs))), λ h. absurd (omega arith)))
+          (omega (arith, serials-append n (begunIn r answer) (begunAll xs)), λ h. absurd (omega arith)))
           (λ p.
           let e0 : count n (serials (begunIn r answer)) ≡ 0 = e ∙ rw p in
-          (omega (arith, serials-append n (begunIn r answer) (begunAll (exchanges after rs)), k .once n .0), λ h. let z = k .once n .1 (omega arith) in omega (arith, serials-append n (begunIn r answer) (begunAll (exchanges after rs)))))
+          (omega (arith, serials-append n (begunIn r answer) (begunAll xs), k .once n .0), λ h. let z = k .once n .1 (omega arith) in omega (arith, serials-append n (begunIn r answer) (begunAll xs))))
 
-pub from-all : (s : Session) (rs : List (List ℕ)) → Sound s → Bytes rs → From s rs
-unfolding allB
-from-all s [] i b = from-none s
-from-all s (r ∷ rs) i b =
-    let b0 = left (allB (λ (x : ℕ). ltb x 256) r) _ b in
-    from-more s r rs i b0 (from-all (stepOf s r 512 .next) rs (sound-step s r i b0) (right (allB (λ (x : ℕ). ltb x 256) r) _ b))
+pub from-all : (L : Ledger) (xs : List Exchange) → Tidy L → told L xs .ok ≡ true → From L xs
+unfolding told
+from-all L [] i o = from-none L i
+from-all L (x ∷ xs) i o =
+    let h = ok-told (hear L (x .said) (readReply (x .answered))) xs o in
+    from-more L x xs i h (from-all (hear L (x .said) (readReply (x .answered))) xs (tidy-hear L (x .said) (readReply (x .answered)) i h) o)
 
--- From a fresh session, after any sequence of records, refused ones too: the accounts of the exchanges, with the ledger that they tell
-pub accounts : (rs : List (List ℕ)) → Bytes rs → Accounts (exchanges fresh rs) (told blank (exchanges fresh rs))
+-- The accounts of the exchanges, with the ledger that they tell
+pub accounts : (xs : List Exchange) → told blank xs .ok ≡ true → Accounts xs (told blank xs)
 unfolding wanting keep count
-accounts rs b =
-    let f = from-all fresh rs sound-fresh b in
-    subst (Accounts (exchanges fresh rs)) (sym (told-all fresh rs sound-fresh b))
-    (record {
+accounts xs o =
+    let f = from-all blank xs tidy-blank o in
+    record {
       pictures = λ n. let a = f .wants n in omega (arith, a);
       once = λ n. f .once n .0;
       memory = λ y. let a = f .held y in omega (arith, a);
-      held-once = λ y. sep-once y (linesOf (ledgerOf (sessionAfter fresh rs))) (sep-session (sessionAfter fresh rs) (sound-after fresh rs sound-fresh b));
-    })
+      held-once = λ y. sep-once y (linesOf (told blank xs)) (f .tidy .apart);
+    }

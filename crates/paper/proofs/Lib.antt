@@ -15,6 +15,7 @@ pub mod Sound
 pub mod Heard
 pub mod Demand3
 pub mod Flow
+pub mod Tidy
 pub mod Accounts
 pub mod Between
 pub mod Fits
