@@ -215,7 +215,7 @@ module _ (s : Session) (r : List ℕ) (c : Quiet s) where
       by-ways s r Calms
       (record {
         malformed = record { calm = c };
-        no = λ kind n k b l h. record { calm = c };
+        no = λ kind n k g b l h. record { calm = c };
         configure = λ k a b. record { calm = drained-calm (configuredSession s (limitsOf r) .limits) };
         begin = λ k z. record { calm = calm-room s (fieldsOf r) c };
         lists = λ k x e z. record { calm = c };

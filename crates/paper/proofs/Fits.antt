@@ -216,7 +216,7 @@ module _ (s : Session) (r : List ℕ) (i : length (s .store) ≤ 16) where
       by-ways s r Fits
       (record {
         malformed = fit-no 511 13;
-        no = λ kind n k b l h. fit-no (256 + kind) n;
+        no = λ kind n k g b l h. fit-no (256 + kind) n;
         configure = λ k a b. tailed _ 1 _ drained-none (drained-short b);
         begin = λ k z. fit-begin z;
         lists = λ k c e z. fit-lists c z;

@@ -25,7 +25,7 @@ hears s r =
     by-ways s r (Heard r)
     (record {
       malformed = record { is = refl };
-      no = λ kind n k b l h. record { is = rw (ne-eqb n 13 (λ e. omega arith)) (eq-eqb (256 + kind) (256 + u16 r 2) (ap (λ (m : ℕ). 256 + m) (sym k))) };
+      no = λ kind n k g b l h. record { is = rw (ne-eqb n 13 (λ e. omega arith)) (eq-eqb (256 + kind) (256 + u16 r 2) (ap (λ (m : ℕ). 256 + m) (sym k))) };
       configure = λ k a b. record { is = same-kind r 1 k };
       begin = λ k z. record { is = same-kind r 2 k };
       lists = λ k c e z. record { is = same-kind r 3 k };

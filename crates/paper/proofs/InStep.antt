@@ -108,7 +108,7 @@ module _ (s : Session) (r : List ℕ) (i : InStep s) where
       by-ways s r Steps
       (record {
         malformed = record { inStep = i };
-        no = λ kind n k b l h. record { inStep = i };
+        no = λ kind n k g b l h. record { inStep = i };
         configure = λ k a b. record { inStep = record { prev = tt; now = tt; wide = λ _. omega (arith, four-bits (limitsOf r) a) } };
         begin = λ k z. record { inStep = record { prev = i .prev; now = begun-ok (fieldsOf r) z; wide = i .wide } };
         lists = λ k c e z. record { inStep = i };

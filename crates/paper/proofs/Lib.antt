@@ -24,6 +24,7 @@ pub mod Nearest
 pub mod Calm
 pub mod InStep
 pub mod Rooms
+pub mod Watching
 pub mod Demand
 pub mod Refusals
 pub mod Vectors

@@ -87,7 +87,7 @@ module _ (s : Session) (r : List ℕ) (i : Bounded s) where
       by-ways s r Stays
       (record {
         malformed = record { bounded = i };
-        no = λ kind n k b l h. record { bounded = i };
+        no = λ kind n k g b l h. record { bounded = i };
         configure = λ k a b. record { bounded = record { bits = omega (arith, in-range (limitsOf r) a); most = omega arith; room = rw drained-empty zero-le; counts = rw drained-empty tt } };
         begin = λ k z. record { bounded = stays-begun (fieldsOf r) };
         lists = λ k c e z. record { bounded = i };

@@ -40,7 +40,7 @@ refusal s r =
     by-ways s r (Refusal s r)
     (record {
       malformed = record { leaves = λ _. refl; six = λ _. refl; known = omega arith };
-      no = λ kind n k b l h. record { leaves = λ _. refl; six = λ _. rw (ne-eqb n 13 (λ e. omega arith), k); known = omega arith };
+      no = λ kind n k g b l h. record { leaves = λ _. refl; six = λ _. rw (ne-eqb n 13 (λ e. omega arith), k); known = omega arith };
       configure = λ k a b. record { leaves = λ h. absurd (h refl); six = λ h. absurd (h refl); known = omega arith };
       begin = λ k z. record { leaves = λ h. absurd (h refl); six = λ h. absurd (h refl); known = omega arith };
       lists = λ k c e z. record { leaves = λ h. refl; six = λ h. absurd (h refl); known = omega arith };

@@ -486,7 +486,7 @@ module _ (s : Session) (r : List ℕ) (i : Sound s) (bytes : allB (λ (b : ℕ).
       by-ways s r (Good s r)
       (record {
         malformed = good-refused 511 13 (omega arith) (omega arith) (λ e. omega arith);
-        no = λ kind n k b l h. good-refused (256 + kind) n (omega arith) (omega arith) (λ e. omega arith);
+        no = λ kind n k g b l h. good-refused (256 + kind) n (omega arith) (omega arith) (λ e. omega arith);
         configure = λ k a b. good-drained (configuredSession s (limitsOf r)) 1 refl refl refl refl (inl refl);
         begin = λ k z. good-begin z;
         lists = λ k c e z. good-lists c e (sliceOf r);

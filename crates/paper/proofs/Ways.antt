@@ -71,7 +71,7 @@ listed s f c = record { number = 0; reply = Reply.Listed (list0 (s .refs) (c .se
 
 pub record Ways (s : Session) (r : List ℕ) (Q : Decided → Type 0) : Type 0 where
   pub malformed : Q (refused s 511 13)
-  pub no : (kind n : ℕ) → kindOf r ≡ kind → kind ≤ 8 → 0 < n → n < 13 → Q (refused s (256 + kind) n)
+  pub no : (kind n : ℕ) → kindOf r ≡ kind → 0 < kind → kind ≤ 8 → 0 < n → n < 13 → Q (refused s (256 + kind) n)
   pub configure : kindOf r ≡ 1 → configureRanges (limitsOf r) ≡ true → (isCurrent (s .current) && full s) ≡ false → Q (accepted (configuredSession s (limitsOf r)) 1 (drainedNow s .tail))
   pub begin : kindOf r ≡ 2 → Accepted s (fieldsOf r) → Q (begun s (fieldsOf r))
   pub lists : kindOf r ≡ 3 → (c : Current) → s .current ≡ Now.Is c → listsRefusal s c (sliceOf r) ≡ 0 → Q (listed s (sliceOf r) c)
@@ -82,13 +82,13 @@ pub record Ways (s : Session) (r : List ℕ) (Q : Decided → Type 0) : Type 0 w
   pub abandon : kindOf r ≡ 8 → (c : Current) → s .current ≡ Now.Is c → Q (accepted (abandonedSession s) 8 (dropped c))
 
 module _ (s : Session) (r : List ℕ) (Q : Decided → Type 0) (w : Ways s r Q) where
-  or-no : (kind n : ℕ) (d : Decided) → kindOf r ≡ kind → kind ≤ 8 → n < 13 → (n ≡ 0 → Q d) → Q (unless s kind n d)
-  or-no kind n d k b h q = by-case Q (eqb n 0) d _ (λ e. q (eqb-true n 0 e)) (λ e. let z = eqb-false n 0 e in w .no kind n k b (omega arith) h)
+  or-no : (kind n : ℕ) (d : Decided) → kindOf r ≡ kind → 0 < kind → kind ≤ 8 → n < 13 → (n ≡ 0 → Q d) → Q (unless s kind n d)
+  or-no kind n d k g b h q = by-case Q (eqb n 0) d _ (λ e. q (eqb-true n 0 e)) (λ e. let z = eqb-false n 0 e in w .no kind n k g b (omega arith) h)
 
   way-configure : kindOf r ≡ 1 → Q (configureOf s (limitsOf r))
   unfolding configureOf configureRefusal
   way-configure k =
-      or-no 1 (first (not (configureRanges (limitsOf r)) gives 2 ∷ (isCurrent (s .current) && full s) gives 9 ∷ [])) _ k (omega arith) (first-below _ (omega arith, (omega arith, tt)))
+      or-no 1 (first (not (configureRanges (limitsOf r)) gives 2 ∷ (isCurrent (s .current) && full s) gives 9 ∷ [])) _ k (omega arith) (omega arith) (first-below _ (omega arith, (omega arith, tt)))
       (λ z.
       let t1 = first-none (not (configureRanges (limitsOf r))) 2 _ (λ e. omega arith) z in
       let t2 = first-none (isCurrent (s .current) && full s) 9 [] (λ e. omega arith) (t1 .1) in
@@ -100,7 +100,7 @@ module _ (s : Session) (r : List ℕ) (Q : Decided → Type 0) (w : Ways s r Q) 
 
   way-begin : kindOf r ≡ 2 → Q (beginOf s (fieldsOf r))
   unfolding beginOf
-  way-begin k = or-no 2 (beginRefusal s (fieldsOf r)) _ k (omega arith) begin-below (λ z. w .begin k (begin-tests s (fieldsOf r) z))
+  way-begin k = or-no 2 (beginRefusal s (fieldsOf r)) _ k (omega arith) (omega arith) begin-below (λ z. w .begin k (begin-tests s (fieldsOf r) z))
 
   lists-below : (c : Current) → listsRefusal s c (sliceOf r) < 13
   unfolding listsRefusal
@@ -111,23 +111,23 @@ module _ (s : Session) (r : List ℕ) (Q : Decided → Type 0) (w : Ways s r Q) 
   way-lists k = go (s .current) refl
     where
       go : (x : Now) → s .current ≡ x → Q (onNow x (refused s 259 4) (listsAt s (sliceOf r)))
-      go Now.Idle e = w .no 3 4 k (omega arith) (omega arith) (omega arith)
-      go (Now.Is c) e = or-no 3 (listsRefusal s c (sliceOf r)) _ k (omega arith) (lists-below c) (w .lists k c e)
+      go Now.Idle e = w .no 3 4 k (omega arith) (omega arith) (omega arith) (omega arith)
+      go (Now.Is c) e = or-no 3 (listsRefusal s c (sliceOf r)) _ k (omega arith) (omega arith) (lists-below c) (w .lists k c e)
 
   way-finish : kindOf r ≡ 4 → Q (finishOf s)
   unfolding finishOf
   way-finish k = go (s .current) refl
     where
       go : (x : Now) → s .current ≡ x → Q (onNow x (refused s 260 4) (finishAt s))
-      go Now.Idle e = w .no 4 4 k (omega arith) (omega arith) (omega arith)
+      go Now.Idle e = w .no 4 4 k (omega arith) (omega arith) (omega arith) (omega arith)
       go (Now.Is c) e =
-          or-no 4 (first (full s gives 9 ∷ [])) _ k (omega arith) (first-below (full s gives 9 ∷ []) (omega arith, tt))
+          or-no 4 (first (full s gives 9 ∷ [])) _ k (omega arith) (omega arith) (first-below (full s gives 9 ∷ []) (omega arith, tt))
           (λ z. w .finish k c e (first-none (full s) 9 [] (λ f. omega arith) z .0))
 
   way-drain : kindOf r ≡ 5 → Q (drainOf s)
   unfolding drainOf
   way-drain k =
-      or-no 5 (first ((isCurrent (s .current) && full s) gives 9 ∷ [])) _ k (omega arith) (first-below ((isCurrent (s .current) && full s) gives 9 ∷ []) (omega arith, tt))
+      or-no 5 (first ((isCurrent (s .current) && full s) gives 9 ∷ [])) _ k (omega arith) (omega arith) (first-below ((isCurrent (s .current) && full s) gives 9 ∷ []) (omega arith, tt))
       (λ z. w .drain k (first-none (isCurrent (s .current) && full s) 9 [] (λ f. omega arith) z .0))
 
   way-abandon : kindOf r ≡ 8 → Q (abandonOf s)
@@ -135,7 +135,7 @@ module _ (s : Session) (r : List ℕ) (Q : Decided → Type 0) (w : Ways s r Q) 
   way-abandon k = go (s .current) refl
     where
       go : (x : Now) → s .current ≡ x → Q (onNow x (refused s 264 4) (λ (c : Current). accepted (abandonedSession s) 8 (dropped c)))
-      go Now.Idle e = w .no 8 4 k (omega arith) (omega arith) (omega arith)
+      go Now.Idle e = w .no 8 4 k (omega arith) (omega arith) (omega arith) (omega arith)
       go (Now.Is c) e = w .abandon k c e
 
   -- a well-formed record of no kind from 1 to 7 is an abandon

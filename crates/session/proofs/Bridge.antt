@@ -76,7 +76,7 @@ decided-views s r =
     by-ways (view s) r (Views s (kindOf r))
     (record {
       malformed = record { is = refl };
-      no = λ kind n k b l h. record { is = ap (λ (t : Bool). view (cond t (nextOf s (kindOf r) (view s)) s)) (ne-eqb n 0 (λ e. omega arith)) };
+      no = λ kind n k g b l h. record { is = ap (λ (t : Bool). view (cond t (nextOf s (kindOf r) (view s)) s)) (ne-eqb n 0 (λ e. omega arith)) };
       configure = λ k a b. record { is = subst (λ (n : ℕ). view (nextOf s n (configuredSession (view s) (limitsOf r))) ≡ (configuredSession (view s) (limitsOf r))) (sym k) (packed-back s 1 (configuredSession (view s) (limitsOf r)) refl refl) };
       begin = λ k z. record { is = subst (λ (n : ℕ). view (nextOf s n (begunSession (view s) (fieldsOf r))) ≡ (begunSession (view s) (fieldsOf r))) (sym k) (packed-back s 2 (begunSession (view s) (fieldsOf r)) refl refl) };
       lists = λ k c e z. record { is = subst (λ (n : ℕ). view (nextOf s n (view s)) ≡ view s) (sym k) refl };
