@@ -8,6 +8,7 @@ pub mod Quiet
 pub mod Lasts
 pub mod Sizes
 pub mod ReadBack
+pub mod WholeBack
 pub mod Bounds
 pub mod Members
 pub mod Ways

@@ -45,7 +45,7 @@ pub record FitBegun (b : Begun) : Type 0 where
   pub serial : b .serial .0 < 4294967296
   pub sets : All SerialWord (inOrder (b .sets))
 
-two-back : (n : ℕ) → n < 65536 → n % 256 + 256 * (n / 256 % 256) ≡ n
+pub two-back : (n : ℕ) → n < 65536 → n % 256 + 256 * (n / 256 % 256) ≡ n
 two-back n h = omega arith
 
 four-back : (n : ℕ) → n < 4294967296 → n % 256 + 256 * (n / 256 % 256) + 65536 * (n / 65536 % 256 + 256 * (n / 16777216 % 256)) ≡ n
@@ -229,7 +229,7 @@ flags-back false false true false = record { is0 = refl; is1 = refl; is2 = refl;
 flags-back false false false true = record { is0 = refl; is1 = refl; is2 = refl; is3 = refl }
 flags-back false false false false = record { is0 = refl; is1 = refl; is2 = refl; is3 = refl }
 
-length-order : (x : Sets) → length (inOrder x) ≡ length (x .before) + length (x .after) + length (x .foll) + length (x .ltCurr) + length (x .ltFoll)
+pub length-order : (x : Sets) → length (inOrder x) ≡ length (x .before) + length (x .after) + length (x .foll) + length (x .ltCurr) + length (x .ltFoll)
 length-order x = simp length-append
 
 begunly : {p p′ : ℤ} {a a′ b b′ c c′ d d′ : Bool} {n n′ : Serial} {x x′ : Sets} → p ≡ p′ → a ≡ a′ → b ≡ b′ → c ≡ c′ → d ≡ d′ → n ≡ n′ → x ≡ x′

@@ -146,7 +146,7 @@ unfolding words flat bytes32
 words-length [] = refl
 words-length (n ∷ ns) = omega (arith, words-length ns)
 
-shown-length : (xs : List Shown) → length (flat shownBytes xs) ≡ 12 * length xs
+pub shown-length : (xs : List Shown) → length (flat shownBytes xs) ≡ 12 * length xs
 unfolding flat bytes32
 shown-length [] = refl
 shown-length (x ∷ xs) = omega (arith, shown-length xs)
