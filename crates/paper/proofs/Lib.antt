@@ -26,6 +26,7 @@ pub mod Calm
 pub mod InStep
 pub mod Rooms
 pub mod Watching
+pub mod Unbroken
 pub mod Demand
 pub mod Refusals
 pub mod Vectors

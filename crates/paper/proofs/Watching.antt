@@ -1,4 +1,4 @@
--- What the ledger that says what is wrong is worth: part 0 all the way is demand 3, and a session's own replies get part 0.
+-- What the ledger that says what is wrong is worth: part 0 all the way is demand 3, whoever wrote the replies.
 use Prim.Native.Nat.{ℕ, zero, suc, _+_, _≤_, _<_}
 use mathlib.Core.Path.{_≡_, refl, sym, ap, _∙_, subst}
 use mathlib.Core.List.{List, [], _∷_, _++_}
@@ -23,24 +23,13 @@ use Rattle.paper.proofs.Bools.{both, left, right, split, by-case}
 use Rattle.paper.proofs.Ways.{first-none, yes-of}
 use Rattle.paper.proofs.Between.{in-order-kept}
 
--- a test that fails, and a number that is not told
+-- a number that is not told
 said-none : (n : ℕ) (ts : List Test) → first (n told ∷ ts) ≡ 0 → (n ≡ 0) × (first ts ≡ 0)
 unfolding first
 said-none n ts e =
     split (eqb n 0) (λ p. (eqb-true n 0 p, rw p at e)) (λ p. absurd (eqb-false n 0 p (rw p at e)))
 
-no-test : (b : Bool) (n : ℕ) (ts : List Test) → b ≡ false → first (b gives n ∷ ts) ≡ first ts
-unfolding first
-no-test b n ts e = rw e
-
-not-told : (n : ℕ) (ts : List Test) → n ≡ 0 → first (n told ∷ ts) ≡ first ts
-unfolding first
-not-told n ts e = rw e
-
-is-true : (b : Bool) → b ≡ true → not b ≡ false
-is-true b e = rw e
-
--- an event with part 0 may happen, and the other way round
+-- an event with part 0 may happen
 may-of : (e : Event) (H : List Line) → eventPart e H ≡ 0 → may e H ≡ true
 unfolding eventPart may
 may-of (Hand x) H z =
@@ -51,14 +40,6 @@ may-of (Free x) H z =
     let t = first-none (not (anyB (lies (x .0)) H)) 10 _ (λ e. omega arith) z in
     both (yes-of (anyB (lies (x .0)) H) (t .0)) (yes-of (allB (quietAt (x .0)) H) (first-none (not (allB (quietAt (x .0)) H)) 11 [] (λ e. omega arith) (t .1) .0))
 
-event-none : (e : Event) (H : List Line) → may e H ≡ true → eventPart e H ≡ 0
-unfolding eventPart may first
-event-none (Hand x) H m =
-    let w = B.any-mono (waitsAs x) (waits (x .serial .0)) (λ e h. both (left (e .wants) _ h) (left (eqb (x .serial .0) (e .serial .0)) _ (right (e .wants) _ h))) H m in
-    rw (w, m)
-event-none (Throw n) H m = rw m
-event-none (Free x) H m = rw (left (anyB (lies (x .0)) H) _ m, right (anyB (lies (x .0)) H) _ m)
-
 tail-may : (es : List Event) (H : List Line) → tailPart es H ≡ 0 → mayAll es H ≡ true
 unfolding tailPart mayAll
 tail-may [] H z = refl
@@ -66,11 +47,6 @@ tail-may (e ∷ es) H z =
     split (eqb (eventPart e H) 0)
     (λ p. both (may-of e H (eqb-true (eventPart e H) 0 p)) (tail-may es (upon e H) (rw p at z)))
     (λ p. absurd (eqb-false (eventPart e H) 0 p (rw p at z)))
-
-tail-none : (es : List Event) (H : List Line) → mayAll es H ≡ true → tailPart es H ≡ 0
-unfolding tailPart mayAll
-tail-none [] H m = refl
-tail-none (e ∷ es) H m = rw (event-none e H (left (may e H) _ m)) (tail-none es (upon e H) (right (may e H) _ m))
 
 -- A reply with part 0 leaves a ledger in order that was in order
 module _ (L : Ledger) (r : List ℕ) (o : L .ok ≡ true) where
