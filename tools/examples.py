@@ -1,8 +1,12 @@
 #!/usr/bin/env python3
-"""The examples of docs/DIFFERENCES.md against model.py: each reply that stands behind a record must be the model's (status 1: some differ).
+"""The examples: examples/*.txt with their bytes, and those in docs/DIFFERENCES.md.
 
-An example is an indented block of `> RECORD` and `< REPLY` lines (records.py has their form); where it has no configure of its own,
-the one that the document names comes first.
+    examples.py            check them (status 1: something is wrong)
+    examples.py --write    write examples/NAME.records and NAME.replies from examples/NAME.txt
+
+Each file of examples/ has one recording of its own name (recordings.py has the form); NAME.records and NAME.replies are its bytes, and
+model.py answers alike. In docs/DIFFERENCES.md an example is an indented block of `> RECORD` and `< REPLY` lines; where it has no configure
+of its own, the one that the document names comes first, and each reply that stands behind a record must be model.py's.
 """
 import pathlib
 import re
@@ -10,8 +14,11 @@ import sys
 
 import model
 import records
+import recordings
 
-DOCUMENT = pathlib.Path(__file__).resolve().parent.parent / "docs" / "DIFFERENCES.md"
+ROOT = pathlib.Path(__file__).resolve().parent.parent
+EXAMPLES = ROOT / "examples"
+DOCUMENT = ROOT / "docs" / "DIFFERENCES.md"
 FIRST = "configure k=4 capacity=4 buffering=4 reorder=1 latency=0"
 
 
@@ -20,7 +27,7 @@ def said(session, text):
 
 
 def wrong(lines):
-    """The replies of one example that are not the model's."""
+    """The replies of one example of the document that are not the model's."""
     session = model.Session()
     if not lines[0].startswith("> configure"):
         said(session, FIRST)
@@ -32,18 +39,51 @@ def wrong(lines):
             yield f"{line}: the model says {records.reply_text(records.reply_of(reply))}"
 
 
-def main():
-    found = bad = 0
+def document_faults():
+    found = 0
     for section in re.split(r"^### ", DOCUMENT.read_text(), flags=re.M)[1:]:
         lines = [line.strip() for line in section.splitlines() if line.startswith("    ")]
-        if lines:
-            found += 1
-            for text in wrong(lines):
-                bad += 1
-                print(f"{section.splitlines()[0]}: {text}")
-    print(f"{found} examples, {bad} replies wrong")
-    return 1 if bad or not found else 0
+        found += bool(lines)
+        for text in wrong(lines) if lines else ():
+            yield f"{section.splitlines()[0]}: {text}"
+    if not found:
+        yield f"{DOCUMENT.name} has no example"
+
+
+def files_of(recording):
+    return [(EXAMPLES / f"{recording.name}.{end}", b"".join(parts)) for end, parts in (("records", recording.said), ("replies", recording.answered))]
+
+
+def example_faults(found):
+    for recording in found:
+        if recording.where.split(":")[0] != f"{recording.name}.txt":
+            yield f"{recording.where}: {recording.name} is not the name of its file"
+        yield from recordings.model_differences(recording)
+        for path, data in files_of(recording):
+            if not path.exists() or path.read_bytes() != data:
+                yield f"{path.name} is not what {recording.name}.txt says (examples.py --write writes it)"
+    if not found:
+        yield "there are no examples"
+
+
+def main(arguments):
+    if arguments not in ([], ["--write"]):
+        print(__doc__, file=sys.stderr)
+        return 2
+    try:
+        found = recordings.read(EXAMPLES)
+    except records.Bad as bad:
+        print(f"examples.py: {bad}", file=sys.stderr)
+        return 2
+    if arguments == ["--write"]:
+        for recording in found:
+            for path, data in files_of(recording):
+                path.write_bytes(data)
+        return 0
+    faults = list(example_faults(found)) + list(document_faults())
+    print("\n".join(faults + [f"{len(found)} examples and those of {DOCUMENT.name}: {len(faults)} faults"]))
+    return 1 if faults else 0
 
 
 if __name__ == "__main__":
-    sys.exit(main())
+    sys.exit(main(sys.argv[1:]))

@@ -1,14 +1,12 @@
 -- What an event takes from the accounts.
 use Rattle.paper.specs.declared.Serial.{Serial}
 use Rattle.paper.specs.declared.Surface.{Surface}
-use Rattle.paper.specs.declared.Picture.{Picture}
 use Rattle.paper.specs.declared.Shown.{Shown}
 use Rattle.paper.specs.Words.{keep, allB, anyB}
 use Rattle.paper.specs.Numbers.{serialNos, surfaceNos}
 use Rattle.paper.specs.Output.{Tail}
 use Rattle.paper.specs.declared.Line.{Line}
 use Rattle.paper.specs.Ledger.{Event, Hand, Throw, Free, waitsAs, waits, lies, quietAt, may, off, free, upon, mayAll, uponAll, events}
-use Rattle.paper.specs.Statement.{line}
 use Rattle.paper.specs.Accounts.{count, serials, surfaces, wanting}
 use Prim.Native.Nat.{ℕ, zero, suc, _+_, _≤_, _<_}
 use mathlib.Core.Path.{_≡_, refl, sym, ap, _∙_, subst}
@@ -20,7 +18,7 @@ use borrow.Author.Tests.{eqb-true, eqb-false, eq-eqb, ne-eqb}
 use Rattle.paper.proofs.Bools as B
 use Rattle.paper.proofs.Bools.{both, left, right, split, not-both, or-left, or-right}
 use Rattle.paper.proofs.Every.{All, all-keep, all-map, all-more, keep-all}
-use Rattle.paper.proofs.Apart.{Other, Distinct, flip}
+use Rattle.paper.proofs.Apart.{flip}
 use Rattle.paper.proofs.Moves.{same-eqb, wanting-is}
 
 pub record Off2 (e x : Line) : Type 0 where
@@ -31,10 +29,6 @@ pub record Off2 (e x : Line) : Type 0 where
 abbrev pub Sep : List Line → Type 0
 Sep [] = Unit {0}
 Sep (e ∷ H) = All (Off2 e) H × Sep H
-
-pub sep-lines : (ps : List Picture) → Distinct ps → Sep (map line ps)
-sep-lines [] d = tt
-sep-lines (p ∷ ps) d = (all-map (Other p) (Off2 (line p)) line (λ q o. record { serial = o .serial; surface = o .surface }) ps (d .0), sep-lines ps (d .1))
 
 sep-off : (n : ℕ) (H : List Line) → Sep H → Sep (map (off n) H)
 sep-off n [] d = tt

@@ -57,15 +57,6 @@ four-back n h =
     let e : n / 65536 % 256 + 256 * (n / 16777216 % 256) ≡ n / 65536 = rw (← b) (two-back (n / 65536) c) in
     omega arith
 
-word-back : (n : ℕ) (rest : List ℕ) → n < 4294967296 → u32 (bytes32 n ++ rest) 0 ≡ n
-unfolding bytes32
-word-back n rest h = four-back n h
-
-signed-back : (z : ℤ) (rest : List ℕ) → in32 z ≡ true → i32 (signed32 z ++ rest) 0 ≡ z
-signed-back z rest h =
-    let f : SFits w32 z = record { sfits = ltb-true _ _ h } in
-    ap (toZ w32) (word-back (ofZ w32 z) rest (fits-ofZ f .fits)) ∙ toZ-ofZ f
-
 -- four bytes more
 more-words : (n : ℕ) → 4 * suc n ≡ suc (suc (suc (suc (4 * n))))
 more-words n = omega arith

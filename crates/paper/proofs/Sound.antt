@@ -202,9 +202,6 @@ module _ (s : Session) (r : List ℕ) (i : Sound s) (bytes : allB (λ (b : ℕ).
 
   -- with a current picture
   module _ (c : Current) (e : s .current ≡ Now.Is c) where
-    all-pictures : List Picture
-    all-pictures = s .store ++ (stored c ∷ [])
-
     with-current : Distinct (s .store ++ (stored c ∷ []))
     with-current = rw e at (i .distinct)
 
