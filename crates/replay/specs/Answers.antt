@@ -44,3 +44,15 @@ pub record Answers (s : Session) (input : List ℕ) (next : Session) (taken made
   pub cut : take taken input ≡ joined said
   pub replied : take made output ≡ joined (repliesTo s said)
   pub after : next ≡ afterAll s said
+
+-- one turn: of the `held` bytes that waited some were whole records, answered one after the other, and the first `made` bytes of the output are the
+-- replies; the others still wait, in front of what was read
+pub record Turned (s : Session) (held : ℕ) (before : List ℕ) (next : Session) (holds : ℕ) (after output : List ℕ) : Type 0 where
+  pub said : List (List ℕ)
+  pub made : ℕ
+  pub left : ℕ
+  pub whole : allB isWhole said ≡ true
+  pub kept : take held before ≡ joined said ++ take left after
+  pub waits : left ≤ holds
+  pub replied : take made output ≡ joined (repliesTo s said)
+  pub later : next ≡ afterAll s said

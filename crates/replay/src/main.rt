@@ -5,10 +5,10 @@ use session::Session;
 use store::Store;
 ghost use mathlib.Core.Path.{_≡_};
 ghost use Prim.Native.Nat.{_+_, _-_, _≤_, _<_};
-ghost use lib.ListN.{length, drop};
+ghost use lib.ListN.{length, take, drop};
 ghost use lib.Seq.{paste};
 ghost use Rattle.replay.specs.Whole.{sizeOf};
-ghost use Rattle.replay.specs.Answers.{Added, Answers};
+ghost use Rattle.replay.specs.Answers.{Added, Answers, Turned};
 
 // A record has at most 65,539 bytes, so there is always room to read on behind one that is not whole yet.
 const INPUT: usize = 131072;
@@ -92,6 +92,7 @@ fn shift(bytes: &mut [u8], from: usize, end: usize)
 fn read_on(s: Session, held: usize, input: &mut [u8]) -> After
     requires { ⌜ held < length (now input) ⌝ }
     ensures { λ r. ⌜ r .held ≤ length (now (input .exit)) ⌝ }
+    ensures kept { λ r. ⌜ (take held (now (input .exit)) ≡ take held (now (input .entry))) × (held ≤ r .held) × (r .next ≡ s) ⌝ }
 {
     let rest = &mut input[held..];
     let got = libc::read(0, rest);
@@ -108,6 +109,7 @@ fn turn(s: Session, held: usize, input: &mut [u8], output: &mut [u8]) -> After
     requires { ⌜ held ≤ length (now input) ⌝ }
     requires { ⌜ (65539 ≤ length (now input)) × (512 ≤ length (now output)) ⌝ }
     ensures { λ r. ⌜ r .held ≤ length (now (input .exit)) ⌝ }
+    ensures turned { λ r. ⌜ Turned s held (now (input .entry)) (r .next) (r .held) (now (input .exit)) (now (output .exit)) ⌝ }
 {
     let a = answer(s, &input[..held], output);
     let taken = a.taken;
