@@ -17,7 +17,7 @@ use Rattle.paper.specs.Replies.{Begun, Reply}
 use Rattle.paper.specs.WholeReply.{wholeReply}
 use Rattle.paper.specs.Ledger.{Ledger, Event, Hand, Throw, Free, Exchange, waitsAs, waits, lies, quietAt, may, mayAll, upon, uponAll, events, none, names, landed, abandoned, unchanged, tell, heard, hear, told, blank, readReply}
 use Rattle.paper.specs.Statement.{Kept}
-use Rattle.paper.specs.Watch.{eventPart, tailPart, _told, startedPart, listedPart, endPart, abandonPart, landedPart, replyPart, partOf, Verdict, watched}
+use Rattle.paper.specs.Watch.{eventPart, tailPart, _told, startedPart, listedPart, endPart, abandonPart, landedPart, replyPart, partOf, Verdict, watched, pairs}
 use Rattle.paper.proofs.Bools as B
 use Rattle.paper.proofs.Bools.{both, left, right, split, by-case}
 use Rattle.paper.proofs.Ways.{first-none, yes-of}
@@ -114,12 +114,6 @@ module _ (L : Ledger) (r : List ℕ) (o : L .ok ≡ true) where
       let t1 = first-none (not (wholeReply a)) 1 _ (λ e. omega arith) z in
       let t2 = first-none (not (heard r (readReply a))) 2 _ (λ e. omega arith) (t1 .1) in
       both (yes-of (heard r (readReply a)) (t2 .0)) (reply-ok (readReply a) (said-none (replyPart L r (readReply a)) [] (t2 .1) .0))
-
--- records and replies as exchanges, as far as both go
-unfoldable pub pairs : List (List ℕ) → List (List ℕ) → List Exchange
-pairs [] answers = []
-pairs (r ∷ rs) [] = []
-pairs (r ∷ rs) (a ∷ answers) = record { said = r; answered = a } ∷ pairs rs answers
 
 -- a verdict without a broken part: a reply for each record, and the ledger that they tell, in order
 pub record Sound (L : Ledger) (rs answers : List (List ℕ)) (v : Verdict) : Type 0 where

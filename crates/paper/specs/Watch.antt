@@ -12,7 +12,7 @@ use Rattle.paper.specs.Sets.{inOrder}
 use Rattle.paper.specs.Output.{Tail}
 use Rattle.paper.specs.Replies.{Begun, Reply}
 use Rattle.paper.specs.WholeReply.{wholeReply}
-use Rattle.paper.specs.Ledger.{Ledger, Event, Hand, Throw, Free, waitsAs, waits, lies, quietAt, upon, uponAll, events, none, names, heard, hear, readReply}
+use Rattle.paper.specs.Ledger.{Ledger, Event, Hand, Throw, Free, Exchange, waitsAs, waits, lies, quietAt, upon, uponAll, events, none, names, heard, hear, readReply}
 
 -- 6: handed out, and no picture of that serial waits; 7: one waits, on another surface or with another POC
 -- 8: thrown away, and no picture of that serial waits
@@ -87,3 +87,9 @@ watched n L (r ∷ rs) [] = record { at = n; part = 17; ledger = L }
 watched n L [] (a ∷ answers) = record { at = n; part = 18; ledger = L }
 watched n L (r ∷ rs) (a ∷ answers) =
     cond (eqb (partOf L r a) 0) (watched (n + 1) (hear L r (readReply a)) rs answers) (record { at = n; part = partOf L r a; ledger = L })
+
+-- records and replies as exchanges, as far as both go
+unfoldable pub pairs : List (List ℕ) → List (List ℕ) → List Exchange
+pairs [] answers = []
+pairs (r ∷ rs) [] = []
+pairs (r ∷ rs) (a ∷ answers) = record { said = r; answered = a } ∷ pairs rs answers
