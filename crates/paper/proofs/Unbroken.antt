@@ -113,7 +113,7 @@ module _ (L : Ledger) (r : List ℕ) where
 record Knows (d : Decided) : Type 0 where
   is : Known (d .reply)
 
-knows : (s : Session) (r : List ℕ) → Known (decideOf s r .reply)
+pub knows : (s : Session) (r : List ℕ) → Known (decideOf s r .reply)
 knows s r =
     by-ways s r Knows
     (record {

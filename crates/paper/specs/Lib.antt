@@ -14,8 +14,8 @@ pub mod RefLists
 pub mod Calls
 pub mod Replies
 pub mod Step
-pub mod WholeReply
 pub mod Ledger
+pub mod WholeReply
 pub mod Accounts
 pub mod Statement
 pub mod Watch

@@ -21,14 +21,17 @@ tailEnd r at = releasedAt r at + 1 + 4 * u8 r (releasedAt r at)
 abbrev pub membersOf : List ℕ → ℕ
 membersOf r = u8 r 15 + u8 r 16 + u8 r 17 + u8 r 18 + u8 r 19
 
+-- where the tail of an accepted reply begins, if it has one
+abbrev pub tailPlace : List ℕ → ℕ
+tailPlace r = cond (eqb (u16 r 2) 258) (20 + 4 * membersOf r) 6
+
 -- "kinds 1 and 4 to 8 hold the refusal number 0 and a tail. Begin holds 0, POC i32, flags u8, serial u32, five u8 counts, their members as u32
 -- serials, the tail. Lists holds 0, two u8 lengths, the u32 serials." A refusal holds its number alone.
 unfoldable pub replyEnd : List ℕ → ℕ
 replyEnd r =
     cond (not (eqb (u16 r 4) 0)) 6
-    (cond (eqb (u16 r 2) 258) (tailEnd r (20 + 4 * membersOf r))
     (cond (eqb (u16 r 2) 259) (8 + 4 * (u8 r 6 + u8 r 7))
-    (tailEnd r 6)))
+    (tailEnd r (tailPlace r)))
 
 -- "kind 256 + record kind", or 511 for number 13, which is always a refusal
 abbrev pub replyKind : List ℕ → Bool
