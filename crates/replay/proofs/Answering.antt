@@ -17,9 +17,11 @@ use Rattle.session.specs.declared.Session.{Session}
 use Rattle.session.specs.declared.Answer.{Answer}
 use Rattle.session.specs.Said.{Permitted, answerOf}
 use Rattle.session.specs.View.{view, nextOf}
-use Rattle.replay.specs.Answers.{joined, isWhole, repliesTo, afterAll, Added, Answers}
-use Rattle.replay.specs.Whole.{sizeOf}
-use Rattle.replay.proofs.Fitting.{reply-fits, size-whole, size-short}
+use Rattle.framing.specs.Cut.{joined, isWhole}
+use Rattle.replay.specs.Answers.{repliesTo, afterAll, Added, Answers}
+use Rattle.framing.specs.Cut.{sizeOf}
+use Rattle.framing.proofs.Fitting.{size-whole, size-short}
+use Rattle.replay.proofs.Fitting.{reply-fits}
 
 -- ---- one reply
 

@@ -8,7 +8,8 @@ use lib.ListN.{length, take, drop, length-drop}
 use lib.Seq.{paste, take-at, take-add, take-take, take-paste, length-take-le}
 use Rattle.paper.specs.Words.{allB}
 use Rattle.session.specs.declared.Session.{Session}
-use Rattle.replay.specs.Answers.{joined, isWhole, repliesTo, afterAll, Answers, Turned}
+use Rattle.framing.specs.Cut.{joined, isWhole}
+use Rattle.replay.specs.Answers.{repliesTo, afterAll, Answers, Turned}
 
 -- bytes put behind the first `held` leave these
 pub front : (held : ℕ) (before behind : List ℕ) → held ≤ length before → take held (take held before ++ behind) ≡ take held before

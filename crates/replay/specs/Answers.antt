@@ -2,25 +2,15 @@
 use Prim.Native.Nat.{ℕ, _+_, _≤_}
 use mathlib.Core.Path.{_≡_}
 use mathlib.Core.List.{List, [], _∷_, _++_}
-use mathlib.Core.Bool.{Bool, true}
+use mathlib.Core.Bool.{true}
 use lib.ListN.{length, take}
-use lib.Dec.{eqb}
 use Rattle.paper.specs.Words.{allB}
-use Rattle.paper.specs.Records.{lengthOf}
+use Rattle.framing.specs.Cut.{joined, isWhole}
 use Rattle.paper.specs.Step.{stepOf}
 use Rattle.session.specs.declared.Session.{Session}
 use Rattle.session.specs.declared.Answer.{Answer}
 use Rattle.session.specs.View.{view}
 use Rattle.session.specs.Said.{answerOf}
-
--- one after the other, nothing between
-unfoldable pub joined : List (List ℕ) → List ℕ
-joined [] = []
-joined (r ∷ rs) = r ++ joined rs
-
--- "exactly head plus body"
-abbrev pub isWhole : List ℕ → Bool
-isWhole r = eqb (length r) (4 + lengthOf r)
 
 -- what the calls of a session write, and the session after them
 unfoldable pub repliesTo : Session → List (List ℕ) → List (List ℕ)

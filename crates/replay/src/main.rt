@@ -6,8 +6,7 @@ use store::Store;
 ghost use mathlib.Core.Path.{_≡_};
 ghost use Prim.Native.Nat.{_+_, _-_, _≤_, _<_};
 ghost use lib.ListN.{length, take, drop};
-ghost use lib.Seq.{paste};
-ghost use Rattle.replay.specs.Whole.{sizeOf};
+ghost use Rattle.framing.specs.Cut.{sizeOf};
 ghost use Rattle.replay.specs.Answers.{Added, Answers, Turned};
 
 // A record has at most 65,539 bytes, so there is always room to read on behind one that is not whole yet.
@@ -30,20 +29,6 @@ struct After {
     more: bool,
 }
 
-// The size of the record at the start of these bytes, or 0 where it is not whole yet.
-fn size(bytes: &[u8]) -> usize
-    ensures { λ r. ⌜ r ≡ sizeOf (now (bytes .entry)) ⌝ }
-{
-    if bytes.len() < 4 {
-        return 0;
-    }
-    let n = 4 + wire::u16_at(bytes, 0) as usize;
-    if bytes.len() < n {
-        return 0;
-    }
-    n
-}
-
 // Answers one record, with the reply behind the `made` bytes of the earlier ones.
 fn reply_to(s: Session, msg: &[u8], replies: &mut [u8], made: usize) -> Answer
     requires { ⌜ made + 512 ≤ length (now replies) ⌝ }
@@ -62,7 +47,7 @@ fn answer(s: Session, bytes: &[u8], replies: &mut [u8]) -> Answered
     let mut taken = 0;
     let mut made = 0;
     while made + Store::REPLY <= replies.len() {
-        let n = size(&bytes[taken..]);
+        let n = framing::size(&bytes[taken..]);
         if n == 0 {
             return Answered { next, taken, made };
         }
@@ -74,18 +59,6 @@ fn answer(s: Session, bytes: &[u8], replies: &mut [u8]) -> Answered
         made += a.len;
     }
     Answered { next, taken, made }
-}
-
-// Moves the bytes from `from` to `end` to the start.
-fn shift(bytes: &mut [u8], from: usize, end: usize)
-    requires { ⌜ (from ≤ end) × (end ≤ length (now bytes)) ⌝ }
-    ensures { λ _. ⌜ now (bytes .exit) ≡ paste (now (bytes .entry)) 0 (drop from (now (bytes .entry))) (end - from) ⌝ }
-{
-    let mut i = from;
-    while i < end {
-        bytes[i - from] = bytes[i];
-        i += 1;
-    }
 }
 
 // One read behind the `held` bytes that wait, with room for one byte at least: none is read only at the end of the input, which ends the run.
@@ -118,7 +91,7 @@ fn turn(s: Session, held: usize, input: &mut [u8], output: &mut [u8]) -> After
     }
     let made = a.made;
     let more = io::write_all(1, &output[..made]);
-    shift(input, taken, held);
+    framing::shift(input, taken, held);
     let next = a.next;
     After {
         next,

@@ -6,7 +6,7 @@ use borrow.Author.Needs.{needs}
 use lib.ListN.{length}
 use Rattle.replay.specs.Answers.{Answers}
 use Rattle.replay.proofs.Answering.{nothing-yet, one-answered}
-use Rattle.replay.proofs.Fitting.{size-at, size-end}
+use Rattle.framing.proofs.Fitting.{size-at, size-end}
 use Rattle.replay.proofs.answer.Statement.{statement}
 use Rattle.replay.proofs.answer.Tie as tie
 

@@ -6,7 +6,7 @@ use borrow.Author.Needs.{needs}
 use lib.ListN.{length}
 use lib.Seq.{length-take-le}
 use Rattle.replay.proofs.Answering.{room-left}
-use Rattle.replay.proofs.Fitting.{within}
+use Rattle.framing.proofs.Fitting.{within}
 use Rattle.replay.proofs.Turning.{waited, answered}
 use Rattle.replay.proofs.turn.Statement.{statement}
 use Rattle.replay.proofs.turn.Tie as tie

@@ -2,8 +2,8 @@
 use mathlib.Core.Path.{sym}
 use borrow.Author.Tests.{lt-leb, le-leb}
 use borrow.Author.Needs.{needs}
-use Rattle.replay.proofs.size.Statement.{statement}
-use Rattle.replay.proofs.size.Tie as tie
+use Rattle.framing.proofs.size.Statement.{statement}
+use Rattle.framing.proofs.size.Tie as tie
 
 returns : tie.Need-returns
 returns c = simp (lt-leb _ _ (c .if1 .taken))

@@ -3,9 +3,9 @@ use Prim.Native.Nat.{_-_, _≤_}
 use mathlib.Core.Path.{_≡_, refl, _∙_}
 use native.Mathlib.Omega.{arith}
 use lib.ListN.{length, length-set}
-use Rattle.replay.proofs.Moving.{moved, none-moved, one-more, all-moved}
-use Rattle.replay.proofs.shift.Statement.{statement}
-use Rattle.replay.proofs.shift.Tie as tie
+use Rattle.framing.proofs.Moving.{moved, none-moved, one-more, all-moved}
+use Rattle.framing.proofs.shift.Statement.{statement}
+use Rattle.framing.proofs.shift.Tie as tie
 
 abbrev Inv-loop : tie.InvT-loop
 Inv-loop bytes₀ from end i₀ bytes i = (from ≤ i) × (i ≤ end) × (end ≤ length bytes₀) × (bytes ≡ moved bytes₀ from (i - from)) × (length bytes ≡ length bytes₀)
