@@ -1,0 +1,6 @@
+pub mod Spelling
+pub mod Places
+pub mod Wording
+pub mod Lining
+pub mod Examples
+pub mod Back

@@ -1,0 +1,24 @@
+-- A comma, then the picture.
+use borrow.Author.Needs.{needs}
+use Rattle.show.proofs.Spelling.{_then_}
+use Rattle.show.proofs.lists.put_next_shown.Statement.{statement}
+use Rattle.show.proofs.lists.put_next_shown.Tie as tie
+
+slice-aggregate-put : tie.Need-slice-aggregate-put
+slice-aggregate-put c = search needs
+
+put-requires : tie.Need-put-requires
+put-requires c κs = search needs
+
+put-shown-requires : tie.Need-put-shown-requires
+put-shown-requires c κs = search needs
+
+same-length : tie.Need-same-length
+same-length c = search needs
+
+returns : tie.Need-returns
+returns c = c .before .before .before .before .before .before .put .ensures then c .before .before .put-shown .ensures
+
+pub put-next-shown-spec : {M : Type 1} → statement M
+put-next-shown-spec =
+    tie.close (tie.spec slice-aggregate-put put-requires put-shown-requires same-length returns)

@@ -1,0 +1,104 @@
+-- Each part stands behind the one before it.
+use mathlib.Core.Path.{sym}
+use borrow.Author.Needs.{needs}
+use native.Mathlib.Omega.{arith}
+use Rattle.show.proofs.Spelling.{_then_, retold, roomier}
+use Rattle.show.proofs.Places.{tail-at}
+use Rattle.show.proofs.lists.put_tail.Statement.{statement}
+use Rattle.show.proofs.lists.put_tail.Tie as tie
+
+byte-requires : tie.Need-byte-requires
+byte-requires c κs = search needs
+
+cast-handed : tie.Need-cast-handed
+cast-handed c = search needs
+
+add-put-handed : tie.Need-add-put-handed
+add-put-handed c = search needs
+
+put-handed-requires : tie.Need-put-handed-requires
+put-handed-requires c κs = search needs
+
+add-b : tie.Need-add-b
+add-b c = search needs
+
+mul-b : tie.Need-mul-b
+mul-b c = search needs
+
+add-b-2 : tie.Need-add-b-2
+add-b-2 c = search needs
+
+byte-requires-2 : tie.Need-byte-requires-2
+byte-requires-2 c κs = search needs
+
+cast-thrown : tie.Need-cast-thrown
+cast-thrown c = search needs
+
+slice-aggregate-put-list : tie.Need-slice-aggregate-put-list
+slice-aggregate-put-list c = search needs
+
+add-put-list : tie.Need-add-put-list
+add-put-list c = search needs
+
+put-list-requires : tie.Need-put-list-requires
+put-list-requires c κs = search needs
+
+add-e : tie.Need-add-e
+add-e c = search needs
+
+mul-e : tie.Need-mul-e
+mul-e c = search needs
+
+add-e-2 : tie.Need-add-e-2
+add-e-2 c = search needs
+
+byte-requires-3 : tie.Need-byte-requires-3
+byte-requires-3 c κs = search needs
+
+cast-released : tie.Need-cast-released
+cast-released c = search needs
+
+slice-aggregate-put-list-2 : tie.Need-slice-aggregate-put-list-2
+slice-aggregate-put-list-2 c = search needs
+
+add-put-list-2 : tie.Need-add-put-list-2
+add-put-list-2 c = search needs
+
+put-list-requires-2 : tie.Need-put-list-requires-2
+put-list-requires-2 c κs = search needs
+
+same-length : tie.Need-same-length
+same-length c = search needs
+
+returns : tie.Need-returns
+returns c =
+    let a = c .before .before .before .before .before .before .before .before .before .before .before .before .before .before .before .before .before .before .before .args in
+    let all = c .before .before .before .before .before .before .before .before .before .before .before .before .before .before .put-handed .ensures then c .before .before .before .before .before .before .before .before .put-list .ensures then c .before .before .put-list2 .ensures in
+    retold (sym (tail-at (a .reply .now) (a .from) (c .before .before .before .before .before .before .before .before .before .before .before .before .before .before .before .before .byte .result) (c .before .before .before .before .before .before .before .before .before .before .before .byte2 .result) (c .before .before .before .before .before .byte3 .result) (c .before .before .before .before .before .before .before .before .before .before .before .before .before .before .before .before .byte .ensures) (c .before .before .before .before .before .before .before .before .before .before .before .byte2 .ensures) (c .before .before .before .before .before .byte3 .ensures))) (roomier (omega arith) all)
+
+pub put-tail-spec : {M : Type 1} → statement M
+put-tail-spec =
+    tie.close
+    (tie.spec
+    byte-requires
+    cast-handed
+    add-put-handed
+    put-handed-requires
+    add-b
+    mul-b
+    add-b-2
+    byte-requires-2
+    cast-thrown
+    slice-aggregate-put-list
+    add-put-list
+    put-list-requires
+    add-e
+    mul-e
+    add-e-2
+    byte-requires-3
+    cast-released
+    slice-aggregate-put-list-2
+    add-put-list-2
+    put-list-requires-2
+    same-length
+    returns)

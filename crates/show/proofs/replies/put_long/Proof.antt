@@ -1,0 +1,78 @@
+-- Behind the short-term sets.
+use mathlib.Core.Path.{sym}
+use borrow.Author.Needs.{needs}
+use native.Mathlib.Omega.{arith}
+use Rattle.show.proofs.Spelling.{_then_, retold, roomier}
+use Rattle.show.proofs.Wording.{long-at}
+use Rattle.show.proofs.replies.put_long.Statement.{statement}
+use Rattle.show.proofs.replies.put_long.Tie as tie
+
+short-members-requires : tie.Need-short-members-requires
+short-members-requires c κs = search needs
+
+mul-from : tie.Need-mul-from
+mul-from c = search needs
+
+add-from : tie.Need-add-from
+add-from c = search needs
+
+byte-requires : tie.Need-byte-requires
+byte-requires c κs = search needs
+
+cast-curr : tie.Need-cast-curr
+cast-curr c = search needs
+
+byte-requires-2 : tie.Need-byte-requires-2
+byte-requires-2 c κs = search needs
+
+cast-foll : tie.Need-cast-foll
+cast-foll c = search needs
+
+slice-aggregate-put-list : tie.Need-slice-aggregate-put-list
+slice-aggregate-put-list c = search needs
+
+put-list-requires : tie.Need-put-list-requires
+put-list-requires c κs = search needs
+
+slice-aggregate-put-list-2 : tie.Need-slice-aggregate-put-list-2
+slice-aggregate-put-list-2 c = search needs
+
+mul-put-list : tie.Need-mul-put-list
+mul-put-list c = search needs
+
+add-put-list : tie.Need-add-put-list
+add-put-list c = search needs
+
+put-list-requires-2 : tie.Need-put-list-requires-2
+put-list-requires-2 c κs = search needs
+
+same-length : tie.Need-same-length
+same-length c = search needs
+
+returns : tie.Need-returns
+returns c =
+    let s = c .before .before .before .before .before .before .before .before .before .before .before .before .short-members in
+    let x = c .before .before .before .before .before .before .before .before .before .before .before .byte in
+    let y = c .before .before .before .before .before .before .before .before .before .before .byte2 in
+    let all = c .before .before .before .before .before .before .before .put-list .ensures then c .before .before .put-list2 .ensures in
+    retold (sym (long-at (c .before .before .before .before .before .before .before .before .before .before .before .before .before .before .before .args .reply .now) (s .result) (x .result) (y .result) (s .ensures .0) (x .ensures) (y .ensures))) (roomier (omega (arith, x .ok, y .ok)) all)
+
+pub put-long-spec : {M : Type 1} → statement M
+put-long-spec =
+    tie.close
+    (tie.spec
+    short-members-requires
+    mul-from
+    add-from
+    byte-requires
+    cast-curr
+    byte-requires-2
+    cast-foll
+    slice-aggregate-put-list
+    put-list-requires
+    slice-aggregate-put-list-2
+    mul-put-list
+    add-put-list
+    put-list-requires-2
+    same-length
+    returns)

@@ -1,0 +1,106 @@
+-- By the definition's own tests.
+use mathlib.Core.Path.{_≡_, sym, _∙_}
+use borrow.Author.Tests.{not-true, not-false}
+use borrow.Author.Needs.{needs}
+use native.Mathlib.Omega.{arith}
+use Rattle.show.proofs.Spelling.{retold, roomier}
+use Rattle.show.proofs.Wording.{said-damaged, said-refused, said-begun, said-listed, said-done}
+use Rattle.show.proofs.replies.put_reply.Statement.{statement}
+use Rattle.show.proofs.replies.put_reply.Tie as tie
+
+is-whole-requires : tie.Need-is-whole-requires
+is-whole-requires c κs = search needs
+
+put-damaged-requires : tie.Need-put-damaged-requires
+put-damaged-requires c κs = search needs
+
+same-length : tie.Need-same-length
+same-length c = search needs
+
+returns : tie.Need-returns
+returns c =
+    let R = c .before .before .before .before .before .before .before .before .args .reply .now in
+    roomier (omega arith) (retold (sym (said-damaged R (sym (c .before .before .before .before .before .is-whole .ensures) ∙ not-true _ (c .before .before .before .before .if1 .taken)))) (c .before .before .put-damaged .ensures))
+
+u16-at-requires : tie.Need-u16-at-requires
+u16-at-requires c κs = search needs
+
+put-refused-requires : tie.Need-put-refused-requires
+put-refused-requires c κs = search needs
+
+same-length-2 : tie.Need-same-length-2
+same-length-2 c = search needs
+
+returns-2 : tie.Need-returns-2
+returns-2 c =
+    let R = c .before .before .before .before .before .before .before .before .before .before .args .reply .now in
+    let w = sym (c .before .before .before .before .before .before .before .is-whole .ensures) ∙ not-false _ (c .before .before .before .before .before .before .if1 .left) in
+    let u = c .before .before .before .before .before .u16-at .ensures in
+    roomier (omega arith) (retold (sym (said-refused R w (λ q. c .before .before .before .before .if2 .taken (u ∙ q)))) (c .before .before .put-refused .ensures))
+
+u16-at-requires-2 : tie.Need-u16-at-requires-2
+u16-at-requires-2 c κs = search needs
+
+put-begun-requires : tie.Need-put-begun-requires
+put-begun-requires c κs = search needs
+
+same-length-3 : tie.Need-same-length-3
+same-length-3 c = search needs
+
+returns-3 : tie.Need-returns-3
+returns-3 c =
+    let R = c .before .before .before .before .before .before .before .before .before .before .before .before .args .reply .now in
+    let w = sym (c .before .before .before .before .before .before .before .before .before .is-whole .ensures) ∙ not-false _ (c .before .before .before .before .before .before .before .before .if1 .left) in
+    let z = sym (c .before .before .before .before .before .before .before .u16-at .ensures) ∙ c .before .before .before .before .before .before .if2 .left in
+    roomier (omega arith) (retold (sym (said-begun R w z (sym (c .before .before .before .before .before .u16-at2 .ensures) ∙ c .before .before .before .before .if3 .taken))) (c .before .before .put-begun .ensures))
+
+put-lists-requires : tie.Need-put-lists-requires
+put-lists-requires c κs = search needs
+
+same-length-4 : tie.Need-same-length-4
+same-length-4 c = search needs
+
+returns-4 : tie.Need-returns-4
+returns-4 c =
+    let R = c .before .before .before .before .before .before .before .before .before .before .before .before .before .args .reply .now in
+    let w = sym (c .before .before .before .before .before .before .before .before .before .before .is-whole .ensures) ∙ not-false _ (c .before .before .before .before .before .before .before .before .before .if1 .left) in
+    let z = sym (c .before .before .before .before .before .before .before .before .u16-at .ensures) ∙ c .before .before .before .before .before .before .before .if2 .left in
+    let k = c .before .before .before .before .before .before .u16-at2 .ensures in
+    roomier (omega arith) (retold (sym (said-listed R w z (λ q. c .before .before .before .before .before .if3 .left (k ∙ q)) (sym k ∙ c .before .before .before .before .if4 .taken))) (c .before .before .put-lists .ensures))
+
+put-done-requires : tie.Need-put-done-requires
+put-done-requires c κs = search needs
+
+same-length-5 : tie.Need-same-length-5
+same-length-5 c = search needs
+
+returns-5 : tie.Need-returns-5
+returns-5 c =
+    let R = c .before .before .before .before .before .before .before .before .before .before .before .before .before .args .reply .now in
+    let w = sym (c .before .before .before .before .before .before .before .before .before .before .is-whole .ensures) ∙ not-false _ (c .before .before .before .before .before .before .before .before .before .if1 .left) in
+    let z = sym (c .before .before .before .before .before .before .before .before .u16-at .ensures) ∙ c .before .before .before .before .before .before .before .if2 .left in
+    let k = c .before .before .before .before .before .before .u16-at2 .ensures in
+    roomier (omega arith) (retold (sym (said-done R w z (λ q. c .before .before .before .before .before .if3 .left (k ∙ q)) (λ q. c .before .before .before .before .if4 .left (k ∙ q)))) (c .before .before .put-done .ensures))
+
+pub put-reply-spec : {M : Type 1} → statement M
+put-reply-spec =
+    tie.close
+    (tie.spec
+    is-whole-requires
+    put-damaged-requires
+    same-length
+    returns
+    u16-at-requires
+    put-refused-requires
+    same-length-2
+    returns-2
+    u16-at-requires-2
+    put-begun-requires
+    same-length-3
+    returns-3
+    put-lists-requires
+    same-length-4
+    returns-4
+    put-done-requires
+    same-length-5
+    returns-5)

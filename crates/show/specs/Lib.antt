@@ -1,0 +1,4 @@
+pub mod Text
+pub mod Lists
+pub mod Lines
+pub mod Stream
