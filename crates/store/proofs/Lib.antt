@@ -3,5 +3,17 @@ pub mod Moves
 pub mod Rooms
 pub mod Searches
 pub mod Marks
+pub mod LentArrays
 pub mod Whole
 pub mod Views
+pub mod RawPart
+pub mod Handing
+pub mod Lending
+pub mod Walked
+pub mod Now
+pub mod Scans
+pub mod Plans
+pub mod Rows
+pub mod Taken
+pub mod Joining
+pub mod Courses

@@ -1,12 +1,12 @@
 -- Membership and marks. Assumes nothing.
-use mathlib.Core.Path.{_≡_, refl, sym, ap}
+use mathlib.Core.Path.{_≡_, refl, sym, ap, _∙_}
 use mathlib.Core.Bool.{Bool, true, false, cond, _||_}
-use mathlib.Core.List.{List, [], _∷_, _++_, map, map-append}
+use mathlib.Core.List.{List, [], _∷_, _++_, append-assoc, map, map-append}
 use Prim.Native.Nat.{ℕ}
 use Rattle.arrays.specs.Pad.{Padded}
 use Rattle.paper.specs.Words.{anyB, keep}
 use Rattle.paper.specs.Numbers.{sameSerial}
-use Rattle.paper.specs.Sets.{Sets, Wishes, isIn, inOrder, markAll, markOnly, marked, longSet, shortSet, longMarked, usedBy, unusedBy, firstOf, shortMatch}
+use Rattle.paper.specs.Sets.{Sets, Wishes, marksOf, setsOf, isIn, inOrder, markAll, markOnly, marked, longSet, shortSet, longMarked, usedBy, unusedBy, firstOf, shortMatch}
 use Rattle.paper.specs.declared.Serial.{Serial}
 use Rattle.paper.specs.declared.Picture.{Picture}
 use Rattle.paper.specs.declared.Wish.{Wish}
@@ -52,3 +52,20 @@ long-marked M ps w = refl
 pub short-append : (ps : List Picture) (a b : List Wish) → shortSet ps (a ++ b) ≡ shortSet ps a ++ shortSet ps b
 unfolding shortSet
 short-append ps a b = map-append (λ (w : Wish). firstOf (shortMatch w) ps) a b
+
+-- the pictures after step 4, by the two runs: Before, After and LtCurr, and the neg and the pos part of Foll and LtFoll
+pub marks-are : (M : ℕ) (ps : List Picture) (w : Wishes)
+    → marksOf M ps w
+    ≡ map (marking false Unmarked ((shortSet (longMarked M ps w) (keep usedBy (w .neg)) ++ (shortSet (longMarked M ps w) (keep usedBy (w .pos)) ++ longSet M ps (keep usedBy (w .lt))))
+    ++ (shortSet (longMarked M ps w) (keep unusedBy (w .neg)) ++ (shortSet (longMarked M ps w) (keep unusedBy (w .pos)) ++ longSet M ps (keep unusedBy (w .lt))))))
+    (longMarked M ps w)
+unfolding marksOf setsOf
+marks-are M ps w =
+    let qs = longMarked M ps w in
+    let lc = longSet M ps (keep usedBy (w .lt)) in
+    let lf = longSet M ps (keep unusedBy (w .lt)) in
+    let u = shortSet qs (keep usedBy (w .neg)) ++ (shortSet qs (keep usedBy (w .pos)) ++ lc) in
+    let f = keep unusedBy (w .neg) in
+    let g = keep unusedBy (w .pos) in
+    let e : shortSet qs (f ++ g) ++ lf ≡ shortSet qs f ++ (shortSet qs g ++ lf) = ap (λ (t : List Serial). t ++ lf) (short-append qs f g) ∙ append-assoc (shortSet qs f) (shortSet qs g) lf in
+    mark-only (setsOf M ps w) qs ∙ ap (λ (v : List Serial). map (marking false Unmarked (u ++ v)) qs) e

@@ -7,7 +7,7 @@ use native.Mathlib.Omega.{arith}
 use lib.ListN.{length}
 use Rattle.arrays.proofs.Pad.{is-view}
 use Rattle.paper.specs.State.{isMarked}
-use Rattle.paper.specs.Output.{Moved, still, andThen, turns, lowest, handOut, handWhile, due, cleared, emptied, removed, beforeDecoding}
+use Rattle.paper.specs.Output.{Moved, still, joined, andThen, turns, lowest, handOut, handWhile, due, cleared, emptied, removed, beforeDecoding}
 use Rattle.paper.specs.Calls.{dropped, discarded, drained, finished}
 use Rattle.paper.specs.declared.Limits.{Limits}
 use Rattle.paper.specs.declared.Current.{Current}
@@ -18,7 +18,7 @@ use Rattle.paper.specs.declared.Shown.{Shown}
 use Rattle.paper.specs.declared.Picture.{Picture}
 use Rattle.paper.specs.declared.Found.the-variants.{Nothing, The}
 use Rattle.store.specs.Store.{HoldsMoved, movedIn, GoodOutcome}
-use Rattle.store.specs.Walks.{turnBy, leaving, staying}
+use Rattle.store.specs.Walks.{leaving, staying}
 use Rattle.store.specs.declared.Outcome.{Outcome}
 
 module _ {o : Outcome} {m : Moved} (h : HoldsMoved o m) where
@@ -52,10 +52,6 @@ from-still m v f e = rw e
 -- ---- one hand-out
 
 module _ (m : Moved) where
-  pub then-nothing : (b : Bool) → lowest Nothing (m .pics) ≡ Nothing → andThen m (handOut b) ≡ m
-  unfolding handOut
-  then-nothing b e = rw e (then-still m)
-
   pub then-leave : (b : Bool) (p : Picture) → lowest Nothing (m .pics) ≡ The p → (b || not (isMarked (p .mark))) ≡ true → andThen m (handOut b) ≡ andThen m (leaving p)
   unfolding handOut
   then-leave b p e t = rw (e, t)
@@ -63,13 +59,6 @@ module _ (m : Moved) where
   pub then-stay : (b : Bool) (p : Picture) → lowest Nothing (m .pics) ≡ The p → (b || not (isMarked (p .mark))) ≡ false → andThen m (handOut b) ≡ andThen m (staying p)
   unfolding handOut
   then-stay b p e t = rw (e, t)
-
-  pub then-turn-by : (f : List Picture → Bool) (t : Bool) → t ≡ f (m .pics) → andThen m (turnBy f) ≡ cond t (andThen m (handOut false)) m
-  then-turn-by f t e = rw (← e) (go t)
-    where
-      go : (t : Bool) → andThen m (λ (qs : List Picture). cond t (handOut false qs) (still qs)) ≡ cond t (andThen m (handOut false)) m
-      go true = refl
-      go false = then-still m
 
 -- ---- a run of turns: what happened so far and the turns that are left are all turns
 
@@ -86,23 +75,10 @@ module _ (m : Moved) (f : List Picture → Moved) (n : ℕ) where
   first-turn = let k : n - 0 ≡ n = omega arith in rw k
 
   module _ (i : ℕ) (x : Moved) where
-    pub next-turn : {r : Outcome} → HoldsMoved r (andThen m f) → i < n → andThen m (turns (n - i) f) ≡ x → andThen (movedIn r) (turns (n - (i + 1)) f) ≡ x
-    next-turn h lt e =
-        let k : n - i ≡ suc (n - (i + 1)) = omega arith in
-        ap (λ (q : Moved). andThen q (turns (n - (i + 1)) f)) (moved-is h) ∙ sym (then-turn m f (n - (i + 1))) ∙ ap (λ (j : ℕ). andThen m (turns j f)) (sym k) ∙ e
-
     pub last-turn : n ≤ i → andThen m (turns (n - i) f) ≡ x → x ≡ m
     last-turn le e =
         let k : n - i ≡ 0 = omega arith in
         sym e ∙ ap (λ (j : ℕ). andThen m (turns j f)) k ∙ then-none m f
-
-pub then-while : (m : Moved) (g : List Picture → Bool) → andThen m (handWhile g) ≡ andThen m (turns (length (m .pics)) (turnBy g))
-unfolding handWhile
-then-while m g = refl
-
-pub then-emptied : (m : Moved) → andThen m emptied ≡ andThen (andThen m (turns (length (m .pics)) (handOut true))) cleared
-unfolding emptied
-then-emptied m = then-assoc m (turns (length (m .pics)) (handOut true)) cleared
 
 -- ---- the current picture first, then the store
 
@@ -136,3 +112,14 @@ module _ (b c : Bool) (l : Limits) (ps : List Picture) where
   pub then-remove : b ≡ false → beforeDecoding b c l ps ≡ andThen (removed ps) (handWhile (due true l))
   unfolding beforeDecoding
   then-remove p = rw p
+
+-- ---- the same, of what happened and not of an outcome
+
+pub then-same : (m : Moved) (f g : List Picture → Moved) → f (m .pics) ≡ g (m .pics) → andThen m f ≡ andThen m g
+then-same m f g e = ap (λ (x : Moved). record { pics = x .pics; tail = joined (m .tail) (x .tail) }) e
+
+module _ (m : Moved) (f : List Picture → Moved) (n i : ℕ) (x : Moved) where
+  pub turn-more : (q : Moved) → q ≡ andThen m f → i < n → andThen m (turns (n - i) f) ≡ x → andThen q (turns (n - (i + 1)) f) ≡ x
+  turn-more q h lt e =
+      let k : n - i ≡ suc (n - (i + 1)) = omega arith in
+      ap (λ (r : Moved). andThen r (turns (n - (i + 1)) f)) h ∙ sym (then-turn m f (n - (i + 1))) ∙ ap (λ (j : ℕ). andThen m (turns j f)) (sym k) ∙ e

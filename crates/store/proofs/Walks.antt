@@ -47,28 +47,7 @@ module _ {A : Type 0} (d : A) (m : ℕ) (a : List A) (i : ℕ) (f : A → Bool) 
   unfolding anyB
   any-end le = rw (at-end (used m a) i le)
 
-  pub count-hit : i < length (used m a) → f (getD a i d) ≡ true → length (keep f (drop i (used m a))) ≡ 1 + length (keep f (drop (i + 1) (used m a)))
-  unfolding keep
-  count-hit lt w = rw (at-cons (used m a) i d lt, ← used-get m a i d lt, w) (omega arith)
-
-  pub count-miss : i < length (used m a) → f (getD a i d) ≡ false → length (keep f (drop i (used m a))) ≡ length (keep f (drop (i + 1) (used m a)))
-  unfolding keep
-  count-miss lt w = rw (at-cons (used m a) i d lt, ← used-get m a i d lt, w)
-
-  pub count-end : length (used m a) ≤ i → length (keep f (drop i (used m a))) ≡ 0
-  unfolding keep
-  count-end le = rw (at-end (used m a) i le)
-
 module _ (s : Store) (i : ℕ) where
-  pub lowest-step : (b : Found) → i < length (view s)
-      → lowest (cond (getD (s .pics) i blank .waiting && below (getD (s .pics) i blank) b) (The (getD (s .pics) i blank)) b) (drop (i + 1) (view s)) ≡ lowest b (drop i (view s))
-  unfolding lowest
-  lowest-step b lt = rw (at-cons (view s) i blank lt, get s i lt)
-
-  pub lowest-end : (b : Found) → length (view s) ≤ i → lowest b (drop i (view s)) ≡ b
-  unfolding lowest
-  lowest-end b le = rw (at-end (view s) i le)
-
   module _ (f : Picture → Bool) where
     pub first-hit : i < length (view s) → f (getD (s .pics) i blank) ≡ true → firstOf f (drop i (view s)) ≡ getD (s .pics) i blank .serial
     unfolding firstOf

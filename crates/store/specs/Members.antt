@@ -1,27 +1,18 @@
--- Runs of serials on the way to the sets, and the marks.
+-- What wishes ask for on the way to the sets, and the marks.
 use mathlib.Core.Path.{_≡_}
 use mathlib.Core.Bool.{Bool, true, false, cond}
 use mathlib.Core.List.{List, _++_, map}
 use Prim.Native.Nat.{ℕ, _+_, _^_, _≤_, min}
 use lib.ListN.{length}
-use Rattle.arrays.specs.Pad.{Padded, used}
 use Rattle.paper.specs.Words.{keep}
 use Rattle.paper.specs.Sets.{usedBy, unusedBy, longMatch, shortMatch, firstOf, marked, isIn}
 use Rattle.paper.specs.declared.Serial.{Serial}
 use Rattle.paper.specs.declared.Mark.{Mark}
 use Rattle.paper.specs.declared.Picture.{Picture}
 use Rattle.paper.specs.declared.Wish.{Wish}
-use Rattle.store.specs.declared.setting.Ask.{Ask}
-use Rattle.store.specs.declared.runs.Run.{Run}
-use Rattle.store.specs.declared.setting.LongSets.{LongSets}
-use Rattle.store.specs.declared.setting.ShortSets.{ShortSets}
-use Rattle.store.specs.Store.{noSerial}
-
-abbrev pub HoldsRun : Run → List Serial → Type 0
-HoldsRun r l = Padded 16 noSerial (r .items) (r .len) l
-
-abbrev pub runIn : Run → List Serial
-runIn r = used (r .len) (r .items)
+use Rattle.store.specs.declared.searching.Ask.{Ask}
+use Rattle.store.specs.declared.setting.Sizes.{Sizes}
+use Rattle.store.specs.References.{HoldsRun}
 
 -- the wishes of one flag, the search that a wish takes, and what it finds
 abbrev pub flagged : Bool → Wish → Bool
@@ -38,29 +29,22 @@ answer long M ps w = firstOf (matching long M w) ps
 abbrev pub answers : Ask → List Picture → List Wish → List Serial
 answers a ps ws = map (answer (a .long) (2 ^ (min (a .k) 16)) ps) (keep (flagged (a .used)) ws)
 
--- r holds what t holds and then these, which are n at most
-pub record Joins (r t : Run) (n : ℕ) (l : List Serial) : Type 0 where
-  pub holds : HoldsRun r (runIn t ++ l)
-  pub more : t .len ≤ r .len
-  pub few : r .len ≤ t .len + n
-
--- the run t holds what it holds, and n more have room; n wishes from a place on are within the sixteen
-pub record Span (t : Run) (at n : ℕ) : Type 0 where
-  pub good : HoldsRun t (runIn t)
-  pub room : t .len + n ≤ 16
+-- n wishes from a place on are within the sixteen, and what they ask for has room behind len members
+pub record Span (at n len : ℕ) : Type 0 where
+  pub room : len + n ≤ 16
   pub within : at + n ≤ 16
 
--- the runs hold these sets, with no more members than there are wishes
-pub record HoldsLong (x : LongSets) (n : ℕ) (a b : List Serial) : Type 0 where
-  pub curr : HoldsRun (x .curr) a
-  pub foll : HoldsRun (x .foll) b
-  pub few : (x .curr .len ≤ n) × (x .foll .len ≤ n)
+-- the sizes of the sets of a run follow one another within the sixteen
+pub record Ordered (x : Sizes) : Type 0 where
+  pub first : x .first ≤ x .both
+  pub both : x .both ≤ x .all
+  pub all : x .all ≤ 16
 
-pub record HoldsShort (x : ShortSets) (n : ℕ) (a b : List Serial) : Type 0 where
-  pub run : HoldsRun (x .run) (a ++ b)
+-- a run holds three sets, one behind the other
+pub record HoldsThree (items : List ℕ) (x : Sizes) (a b c : List Serial) : Type 0 where
+  pub run : HoldsRun items (x .all) (a ++ (b ++ c))
   pub first : x .first ≡ length a
-  pub within : x .first ≤ x .run .len
-  pub few : x .run .len ≤ n
+  pub both : x .both ≡ length a + length b
 
 -- a picture whose serial is among these (or is not) gets the mark
 abbrev pub marking : Bool → Mark → List Serial → Picture → Picture

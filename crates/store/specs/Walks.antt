@@ -8,18 +8,13 @@ use Rattle.paper.specs.Poc.{modZ, eqZ}
 use Rattle.paper.specs.State.{isMarked, isShortTerm}
 use Rattle.paper.specs.Sets.{marked}
 use Rattle.paper.specs.Step.{heldBy}
-use Rattle.paper.specs.Calls.{raised}
-use Rattle.paper.specs.Output.{Moved, leave, stay, still, handOut, due, done, inUse}
+use Rattle.paper.specs.Output.{Moved, leave, stay}
 use Rattle.paper.specs.declared.Serial.{Serial}
 use Rattle.paper.specs.declared.Surface.{Surface}
 use Rattle.paper.specs.declared.Mark.the-variants.{Unmarked}
 use Rattle.paper.specs.declared.Picture.{Picture}
 use Rattle.store.specs.declared.pictures.Sought.{Sought}
 use Rattle.store.specs.declared.pictures.Sought.the-variants.{AnyAt, LowAt, ShortAt, LateBy, HeldBy}
-use Rattle.store.specs.declared.pictures.Change.{Change}
-use Rattle.store.specs.declared.pictures.Change.the-variants.{Same, Unmark, Raise, Quiet}
-use Rattle.store.specs.declared.output.Rule.{Rule}
-use Rattle.store.specs.declared.output.Rule.the-variants.{All, Due}
 
 -- "any mark and equal POC", "or equal POC mod M", "short-term .. of equal POC"
 abbrev pub anyAt : ℤ → Picture → Bool
@@ -42,12 +37,6 @@ passing (ShortAt z) = shortAt z
 passing (LateBy n) = lateBy n
 passing (HeldBy x) = heldBy x
 
-abbrev pub changing : Change → Picture → Picture
-changing Same p = p
-changing Unmark p = marked Unmarked p
-changing Raise p = raised p
-changing (Quiet n) p = done (n .0) p
-
 -- another picture than that of serial n
 abbrev pub other : Serial → Picture → Bool
 other n q = not (eqb (n .0) (q .serial .0))
@@ -58,20 +47,9 @@ serialOf p = p .serial
 abbrev pub surfaceOf : Picture → Surface
 surfaceOf p = p .surface
 
-abbrev pub unused : Picture → Bool
-unused p = not (inUse p)
-
 -- the hand-outs of the paper with the list last, as `andThen` takes them
 abbrev pub leaving : Picture → List Picture → Moved
 leaving p ps = leave ps p
 
 abbrev pub staying : Picture → List Picture → Moved
 staying p ps = stay ps p
-
--- one turn of "hand out while one is due and one waits"
-abbrev pub turnBy : (List Picture → Bool) → List Picture → Moved
-turnBy f qs = cond (f qs) (handOut false qs) (still qs)
-
-abbrev pub turning : Rule → List Picture → Moved
-turning All = handOut true
-turning (Due l b) = turnBy (due b l)

@@ -1,27 +1,20 @@
 // Step 5 of begin, finish, drain, discard and what abandon drops.
-ghost use mathlib.Core.List.{[], _∷_, _++_};
-ghost use Prim.Native.Nat.{_<_};
+ghost use mathlib.Core.List.{[]};
 ghost use Rattle.paper.specs.Output.{beforeDecoding};
-ghost use Rattle.paper.specs.Calls.{stored, finished, drained, discarded, dropped};
-ghost use Rattle.store.specs.Store.{Holds, view, Good, HoldsMoved, HoldsThrown, Room, RoomIf};
+ghost use Rattle.paper.specs.Calls.{finished, drained, discarded, dropped};
+ghost use Rattle.store.specs.Store.{view, HoldsMoved, HoldsThrown, Room, RoomIf};
 use crate::Handed;
 use crate::Outcome;
 use crate::Released;
 use crate::Store;
 use crate::Thrown;
 use crate::changing::normal;
-use crate::changing::raise_counts;
-use crate::output::bump_as_needed;
-use crate::output::bump_as_needed_after;
-use crate::pictures::picture_of;
-use crate::places::push;
 use crate::places::push_serial;
 use crate::places::push_surface;
 use crate::removal::clear;
 use crate::removal::clear_after;
-use crate::removal::empty_out;
-use crate::removal::empty_out_after;
-use crate::removal::remove_unused;
+use crate::settling::Course;
+use crate::settling::carry_out;
 use paper::Current;
 use paper::Limits;
 use paper::Now;
@@ -32,21 +25,14 @@ pub fn update_dpb_before_decoding(s: Store, starts: bool, no_prior: bool, l: Lim
     ensures { λ r. ⌜ HoldsMoved r (beforeDecoding starts «no_prior» l (view s)) ⌝ }
 {
     if starts {
-        if no_prior { clear(s) } else { empty_out(s) }
+        if no_prior {
+            clear(s)
+        } else {
+            carry_out(s, Now::Idle, Course::Empty)
+        }
     } else {
-        let o = remove_unused(s);
-        bump_as_needed_after(o, l, true)
+        carry_out(s, Now::Idle, Course::Remove(l))
     }
-}
-
-// The current picture joins the stored ones (C.5.2.3).
-fn store_picture(s: Store, c: Current) -> Store
-    requires { ⌜ Good s ⌝ }
-    requires { ⌜ s .len < 16 ⌝ }
-    ensures { λ r. ⌜ Holds r (view s ++ (stored c ∷ [])) ⌝ }
-{
-    let p = picture_of(c);
-    push(s, p)
 }
 
 // Finish (C.5.2.3): counts rise, the picture is stored, and others are handed out while due, without the buffering test.
@@ -54,9 +40,7 @@ pub fn finish_picture(s: Store, c: Current, l: Limits) -> Outcome
     requires { ⌜ Room s ⌝ }
     ensures { λ r. ⌜ HoldsMoved r (finished l (view s) c) ⌝ }
 {
-    let t = raise_counts(s);
-    let u = store_picture(t, c);
-    bump_as_needed(u, l, false)
+    carry_out(s, Now::Is(c), Course::Needed(l))
 }
 
 // Drain: a current picture is finished, then the store is emptied.
@@ -65,11 +49,8 @@ pub fn drain(s: Store, now: Now, l: Limits) -> Outcome
     ensures { λ r. ⌜ HoldsMoved r (drained l (view s) now) ⌝ }
 {
     match now {
-        Now::Idle => empty_out(s),
-        Now::Is(c) => {
-            let o = finish_picture(s, c, l);
-            empty_out_after(o)
-        }
+        Now::Idle => carry_out(s, now, Course::Empty),
+        Now::Is(c) => carry_out(s, now, Course::Drain(l)),
     }
 }
 

@@ -1,15 +1,20 @@
 // Layer 2, the stored pictures: searches, marks, handing out, removal and emptying (8.3.2, C.5.2). It knows nothing of records and
 // replies. Any store value may be given: a length over 16 counts as 16, and a picture is told by its serial.
+mod bumping;
 mod changing;
+mod columns;
 mod ending;
+mod leaving;
+mod lent;
 mod marking;
-mod output;
 mod pictures;
 mod places;
+mod references;
 mod removal;
 mod runs;
 mod searching;
 mod setting;
+mod settling;
 
 pub use changing::normal;
 pub use ending::discard;
@@ -17,18 +22,15 @@ pub use ending::drain;
 pub use ending::drop_current;
 pub use ending::finish_picture;
 pub use ending::update_dpb_before_decoding;
-pub use output::bump;
-pub use output::bump_as_needed;
-pub use output::find_lowest_poc_for_bumping;
+pub use lent::find_ref_by_poc_in;
+pub use lent::find_ref_by_poc_masked_in;
+pub use lent::find_short_term_ref_by_poc_in;
+pub use lent::set_mark;
 pub use places::is_full;
 pub use places::used_places;
 pub use removal::clear;
-pub use removal::empty_out;
-pub use removal::remove_unused;
-pub use searching::find_long_term;
 pub use searching::find_ref_by_poc;
 pub use searching::find_ref_by_poc_masked;
-pub use searching::find_short_term;
 pub use searching::find_short_term_ref_by_poc;
 pub use searching::holds_surface;
 pub use setting::derive_and_mark_rps;

@@ -1,46 +1,51 @@
 // The marks of step 4 (8.3.2).
 ghost use mathlib.Core.Path.{_≡_};
-ghost use mathlib.Core.List.{_++_, map};
-ghost use Rattle.store.specs.Store.{Holds, view};
-ghost use Rattle.store.specs.Members.{HoldsRun, runIn, marking};
+ghost use mathlib.Core.List.{List, _++_, map};
+ghost use Prim.Native.Nat.{_≤_};
+ghost use Rattle.paper.specs.declared.Picture.{Picture};
+ghost use Rattle.paper.specs.declared.Serial.{Serial};
+ghost use Rattle.store.specs.References.{HoldsRun, ShowsNames, ShowsMarks, recoded};
+ghost use Rattle.store.specs.Members.{marking};
 use crate::Store;
-use crate::pictures::with_mark;
-use crate::places::push;
-use crate::places::used_places;
-use crate::runs::Run;
-use crate::runs::is_in;
+use crate::references::mark_code;
+use crate::runs::in_run;
 use paper::Mark;
-use paper::Picture;
 
-// The picture, marked m if it is in one of two runs (`there`) or if it is in neither.
-fn mark_one(p: Picture, a: Run, b: Run, there: bool, m: Mark) -> Picture
-    requires { ⌜ HoldsRun a (runIn a) ⌝ }
-    requires { ⌜ HoldsRun b (runIn b) ⌝ }
-    ensures { λ r. ⌜ r ≡ marking there m (runIn a ++ runIn b) p ⌝ }
+// The number of a mark, or another in its place if a picture is in the runs (`there`) or in neither.
+fn recode(old: u8, found: bool, there: bool, code: u8) -> u8
+    ensures { λ r. ⌜ r ≡ recoded there found code old ⌝ }
 {
-    let n = p.serial;
-    let found = is_in(n, a, b);
     if there {
-        if found { with_mark(p, m) } else { p }
+        if found { code } else { old }
     } else {
-        if found { p } else { with_mark(p, m) }
+        if found { old } else { code }
     }
 }
 
-// Every picture that is in one of two runs (`there`), or every other one, gets the mark m.
-pub(crate) fn mark_where(s: Store, a: Run, b: Run, there: bool, m: Mark) -> Store
-    requires { ⌜ HoldsRun a (runIn a) ⌝ }
-    requires { ⌜ HoldsRun b (runIn b) ⌝ }
-    ensures { λ r. ⌜ Holds r (map (marking there m (runIn a ++ runIn b)) (view s)) ⌝ }
+// The column of the marks, with the mark m for every picture that is in one of two runs (`there`), or for every other one.
+pub(crate) fn mark_where(
+    marks: &[u8; Store::CAPACITY],
+    names: &[u32; Store::CAPACITY],
+    n: usize,
+    a: &[u32; Store::CAPACITY],
+    x: usize,
+    b: &[u32; Store::CAPACITY],
+    y: usize,
+    there: bool,
+    m: Mark,
+) -> [u8; Store::CAPACITY]
+    requires { ⌜ (n ≤ 16) × ((x ≤ 16) × (y ≤ 16)) ⌝ }
+    ensures { λ r. ⌜ ((ps : List Picture) (u v : List Serial) → ShowsMarks ps (now (marks .entry)) n → ShowsNames ps (now (names .entry)) n → HoldsRun (now (a .entry)) x u → HoldsRun (now (b .entry)) y v → ShowsMarks (map (marking there m (u ++ v)) ps) r n) ⌝ }
 {
-    let n = used_places(s);
-    let mut t = Store::empty();
+    let code = mark_code(m);
+    let mut now = [0u8; Store::CAPACITY];
     let mut i: usize = 0;
     while i < n {
-        let p = s.pics[i];
-        let q = mark_one(p, a, b, there, m);
-        t = push(t, q);
+        let name = names[i];
+        let found = in_run(name, a, x) | in_run(name, b, y);
+        let old = marks[i];
+        now[i] = recode(old, found, there, code);
         i += 1;
     }
-    t
+    now
 }

@@ -3,20 +3,17 @@ ghost use mathlib.Core.Path.{_≡_};
 ghost use mathlib.Core.Bool.{cond};
 ghost use Prim.Native.Nat.{_+_, _^_, min};
 ghost use lib.Dec.{ltb};
-ghost use Rattle.paper.specs.Poc.{eqZ};
+ghost use lib.IntN.{pos};
+ghost use Rattle.paper.specs.Poc.{modZ, eqZ};
 ghost use Rattle.paper.specs.State.{isMarked, isShortTerm, countLimit};
 ghost use Rattle.paper.specs.Numbers.{sameSerial};
 ghost use Rattle.paper.specs.Step.{heldBy};
 ghost use Rattle.paper.specs.Sets.{marked};
-ghost use Rattle.paper.specs.Calls.{raised, stored};
-ghost use Rattle.paper.specs.Output.{shown, done, inUse};
-ghost use Rattle.store.specs.Walks.{anyAt, lowAt, shortAt, lateBy, passing, changing, other};
+ghost use Rattle.store.specs.Walks.{anyAt, lowAt, shortAt, lateBy, passing};
 use derivation::modular::low_bits;
-use paper::Current;
 use paper::Mark;
 use paper::Picture;
 use paper::Serial;
-use paper::Shown;
 use paper::Surface;
 
 // Where a count stops rising.
@@ -30,14 +27,6 @@ pub enum Sought {
     ShortAt(i32),
     LateBy(u32),
     HeldBy(Surface),
-}
-
-// What a walk does to every stored picture: nothing; its mark goes; its count rises; it no longer waits if this is its serial.
-pub enum Change {
-    Same,
-    Unmark,
-    Raise,
-    Quiet(Serial),
 }
 
 // Whether a mark is one for reference.
@@ -69,6 +58,14 @@ pub(crate) fn same_poc(a: i32, b: i32) -> bool
     a == b
 }
 
+// Whether the low k bits of a POC are these.
+pub(crate) fn same_low(k: u8, poc: i32, low: i32) -> bool
+    ensures { λ r. ⌜ r ≡ eqZ (pos (modZ poc (2 ^ (min k 16)))) low ⌝ }
+{
+    let bits = low_bits(k, poc) as i32;
+    same_poc(bits, low)
+}
+
 // Whether p has any mark and this POC.
 fn is_any_at(p: Picture, poc: i32) -> bool
     ensures { λ r. ⌜ r ≡ anyAt poc p ⌝ }
@@ -82,8 +79,7 @@ fn is_low_at(p: Picture, k: u8, low: i32) -> bool
     ensures { λ r. ⌜ r ≡ lowAt (2 ^ (min k 16)) low p ⌝ }
 {
     let m = p.mark;
-    let bits = low_bits(k, p.poc) as i32;
-    is_marked(m) & same_poc(bits, low)
+    is_marked(m) & same_low(k, p.poc, low)
 }
 
 // Whether p is a short-term picture of this POC.
@@ -122,58 +118,6 @@ pub(crate) fn passes(t: Sought, p: Picture) -> bool
     }
 }
 
-// Whether two serials name one picture.
-pub(crate) fn same_serial(a: Serial, b: Serial) -> bool
-    ensures { λ r. ⌜ r ≡ sameSerial a b ⌝ }
-{
-    a.0 == b.0
-}
-
-// Whether q is another picture than that of serial n.
-pub(crate) fn is_other(n: Serial, q: Picture) -> bool
-    ensures { λ r. ⌜ r ≡ other n q ⌝ }
-{
-    let m = q.serial;
-    !same_serial(n, m)
-}
-
-// Whether p waits or is marked: a removal leaves it (C.5.2.2).
-pub(crate) fn in_use(p: Picture) -> bool
-    ensures { λ r. ⌜ r ≡ inUse p ⌝ }
-{
-    let m = p.mark;
-    p.waiting | is_marked(m)
-}
-
-// As a tail names a picture.
-pub(crate) fn as_shown(p: Picture) -> Shown
-    ensures { λ r. ⌜ r ≡ shown p ⌝ }
-{
-    let serial = p.serial;
-    let surface = p.surface;
-    Shown {
-        serial,
-        surface,
-        poc: p.poc,
-    }
-}
-
-// The current picture as it is stored: short-term, count 0, waiting if its output flag is 1 (C.5.2.3).
-pub(crate) fn picture_of(c: Current) -> Picture
-    ensures { λ r. ⌜ r ≡ stored c ⌝ }
-{
-    let serial = c.serial;
-    let surface = c.surface;
-    Picture {
-        serial,
-        surface,
-        poc: c.poc,
-        mark: Mark::ShortTerm,
-        waiting: c.output,
-        count: 0,
-    }
-}
-
 // The picture with another mark.
 pub(crate) fn with_mark(p: Picture, m: Mark) -> Picture
     ensures { λ r. ⌜ r ≡ marked m p ⌝ }
@@ -191,40 +135,8 @@ pub(crate) fn with_mark(p: Picture, m: Mark) -> Picture
 }
 
 // The next count: one more, stopping at 2,147,483,647.
-fn next_count(n: u32) -> u32
+pub(crate) fn next_count(n: u32) -> u32
     ensures { λ r. ⌜ r ≡ cond (ltb n countLimit) (n + 1) countLimit ⌝ }
 {
     if n < COUNT_LIMIT { n + 1 } else { COUNT_LIMIT }
-}
-
-// The picture with its count risen.
-fn with_count(p: Picture) -> Picture
-    ensures { λ r. ⌜ r ≡ raised p ⌝ }
-{
-    let next = next_count(p.count);
-    let mut q = p;
-    q.count = next;
-    q
-}
-
-// The picture, no longer waiting if its serial is n.
-fn done_with(n: Serial, p: Picture) -> Picture
-    ensures { λ r. ⌜ r ≡ done (n .0) p ⌝ }
-{
-    let still = is_other(n, p);
-    let mut q = p;
-    q.waiting = p.waiting & still;
-    q
-}
-
-// What a walk makes of a picture.
-pub(crate) fn changed(p: Picture, c: Change) -> Picture
-    ensures { λ r. ⌜ r ≡ changing c p ⌝ }
-{
-    match c {
-        Change::Same => p,
-        Change::Unmark => with_mark(p, Mark::Unmarked),
-        Change::Raise => with_count(p),
-        Change::Quiet(n) => done_with(n, p),
-    }
 }

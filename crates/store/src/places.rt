@@ -4,15 +4,13 @@ ghost use mathlib.Core.List.{[], _∷_, _++_};
 ghost use lib.ListN.{length};
 ghost use lib.Dec.{leb};
 ghost use Prim.Native.Nat.{_≤_, _<_, min};
-ghost use Rattle.store.specs.Store.{Holds, view, Good, HoldsHanded, handedIn, HoldsThrown, thrownIn, HoldsReleased, releasedIn};
-use crate::Handed;
+ghost use Rattle.store.specs.Store.{Holds, view, Good, HoldsThrown, thrownIn, HoldsReleased, releasedIn};
 use crate::Released;
 use crate::Store;
 use crate::Thrown;
 use paper::Limits;
 use paper::Picture;
 use paper::Serial;
-use paper::Shown;
 use paper::Surface;
 
 // How many places are used: a length over 16 counts as 16.
@@ -49,19 +47,6 @@ pub(crate) fn push(s: Store, p: Picture) -> Store
     let at = s.len;
     let mut t = s;
     t.pics[at] = p;
-    t.len = at + 1;
-    t
-}
-
-// One picture more is handed out.
-pub(crate) fn push_shown(s: Handed, p: Shown) -> Handed
-    requires { ⌜ HoldsHanded s (handedIn s) ⌝ }
-    requires { ⌜ s .len < 16 ⌝ }
-    ensures { λ r. ⌜ HoldsHanded r (handedIn s ++ (p ∷ [])) ⌝ }
-{
-    let at = s.len;
-    let mut t = s;
-    t.items[at] = p;
     t.len = at + 1;
     t
 }

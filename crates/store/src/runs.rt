@@ -1,53 +1,32 @@
-// Serials in a run: one more, membership, one run behind another.
+// Runs of serials, as numbers in the first places of an array that can be lent.
 ghost use mathlib.Core.Path.{_≡_};
-ghost use mathlib.Core.List.{[], _∷_, _++_};
-ghost use Prim.Native.Nat.{_+_, _≤_, _<_};
-ghost use Rattle.paper.specs.Sets.{isIn};
-ghost use Rattle.store.specs.Members.{HoldsRun, runIn};
+ghost use mathlib.Core.List.{List, _++_};
+ghost use lib.Dec.{eqb};
+ghost use Prim.Native.Nat.{ℕ, _+_, _≤_};
+ghost use Rattle.arrays.specs.Pad.{Padded};
+ghost use Rattle.paper.specs.Words.{anyB};
+ghost use Rattle.paper.specs.declared.Serial.{Serial};
+ghost use Rattle.store.specs.Store.{noSerial};
+ghost use Rattle.store.specs.References.{HoldsRun};
 use crate::Store;
-use crate::pictures::same_serial;
 use paper::Serial;
 
-// Serials found, one behind the other.
-pub struct Run {
-    pub items: [Serial; Store::CAPACITY],
-    pub len: usize,
-}
-
-impl Run {
-    // No serial found.
-    pub fn none() -> Self
-        ensures { λ r. ⌜ HoldsRun r [] ⌝ }
-    {
-        let b = Serial(0);
-        let items = [b; Store::CAPACITY];
-        Run { items, len: 0 }
-    }
-}
-
-// One member more.
-pub(crate) fn push_member(s: Run, n: Serial) -> Run
-    requires { ⌜ HoldsRun s (runIn s) ⌝ }
-    requires { ⌜ s .len < 16 ⌝ }
-    ensures { λ r. ⌜ HoldsRun r (runIn s ++ (n ∷ [])) ⌝ }
+// Whether two serials are equal, as numbers.
+fn same_name(a: u32, b: u32) -> bool
+    ensures { λ r. ⌜ r ≡ eqb a b ⌝ }
 {
-    let at = s.len;
-    let mut t = s;
-    t.items[at] = n;
-    t.len = at + 1;
-    t
+    a == b
 }
 
 // Whether a serial is in the run.
-fn in_run(n: Serial, a: Run) -> bool
-    requires { ⌜ HoldsRun a (runIn a) ⌝ }
-    ensures { λ r. ⌜ r ≡ isIn n (runIn a) ⌝ }
+pub(crate) fn in_run(name: u32, items: &[u32; Store::CAPACITY], len: usize) -> bool
+    requires { ⌜ len ≤ 16 ⌝ }
+    ensures { λ r. ⌜ ((l : List ℕ) → Padded 16 0 (now (items .entry)) len l → r ≡ anyB (eqb name) l) ⌝ }
 {
-    let len = a.len;
     let mut i: usize = 0;
     while i < len {
-        let m = a.items[i];
-        if same_serial(n, m) {
+        let m = items[i];
+        if same_name(name, m) {
             return true;
         }
         i += 1;
@@ -55,29 +34,39 @@ fn in_run(n: Serial, a: Run) -> bool
     false
 }
 
-// Whether a serial is in one of two runs.
-pub(crate) fn is_in(n: Serial, a: Run, b: Run) -> bool
-    requires { ⌜ HoldsRun a (runIn a) ⌝ }
-    requires { ⌜ HoldsRun b (runIn b) ⌝ }
-    ensures { λ r. ⌜ r ≡ isIn n (runIn a ++ runIn b) ⌝ }
+// The members of another run join those of the first, and how many there are then.
+pub(crate) fn join_runs(
+    into: &mut [u32; Store::CAPACITY],
+    len: usize,
+    from: &[u32; Store::CAPACITY],
+    n: usize,
+) -> usize
+    requires { ⌜ len + n ≤ 16 ⌝ }
+    ensures { λ r. ⌜ (r ≡ len + n) × ((l m : List ℕ) → Padded 16 0 (now (into .entry)) len l → Padded 16 0 (now (from .entry)) n m → Padded 16 0 (now (into .exit)) r (l ++ m)) ⌝ }
 {
-    in_run(n, a) | in_run(n, b)
-}
-
-// The members of b join those of a.
-pub(crate) fn join_runs(a: Run, b: Run) -> Run
-    requires { ⌜ HoldsRun a (runIn a) ⌝ }
-    requires { ⌜ HoldsRun b (runIn b) ⌝ }
-    requires { ⌜ a .len + b .len ≤ 16 ⌝ }
-    ensures { λ r. ⌜ HoldsRun r (runIn a ++ runIn b) ⌝ }
-{
-    let n = b.len;
-    let mut t = a;
     let mut i: usize = 0;
     while i < n {
-        let m = b.items[i];
-        t = push_member(t, m);
+        let m = from[i];
+        let at = len + i;
+        into[at] = m;
         i += 1;
     }
-    t
+    len + n
+}
+
+// The serials of a run.
+pub(crate) fn serials_of(run: &[u32; Store::CAPACITY], n: usize) -> [Serial; Store::CAPACITY]
+    requires { ⌜ n ≤ 16 ⌝ }
+    ensures { λ r. ⌜ ((l : List Serial) → HoldsRun (now (run .entry)) n l → Padded 16 noSerial r n l) ⌝ }
+{
+    let b = Serial(0);
+    let mut items = [b; Store::CAPACITY];
+    let mut i: usize = 0;
+    while i < n {
+        let m = run[i];
+        let s = Serial(m);
+        items[i] = s;
+        i += 1;
+    }
+    items
 }

@@ -1,107 +1,113 @@
--- Each step holds the list of the definition, so the next speaks of that list.
-use mathlib.Core.List.{List, _++_}
-use Prim.Native.Nat.{_^_, min, ℕ}
+-- Each column and each run shows the list of the definition, so the next step speaks of that list.
+use mathlib.Core.List.{_++_}
+use mathlib.Core.Path.{_∙_, sym}
+use native.Mathlib.Omega.{arith}
+use Prim.Native.Nat.{_^_, min}
 use borrow.Author.Needs.{needs}
-use Rattle.arrays.proofs.Pad.{is-good, is-view}
 use Rattle.paper.specs.Sets.{longMarked, longSet, marksOf, setsOf, shortSet, unmarkedIf, unusedBy, usedBy}
 use Rattle.paper.specs.Words.{keep}
-use Rattle.paper.specs.declared.Picture.{Picture}
-use Rattle.store.proofs.Marks.{long-marked, mark-only}
-use Rattle.store.specs.Members.{HoldsLong, HoldsRun, runIn}
-use Rattle.store.specs.Sets.{HoldsRefs, HoldsRest, wishesIn}
-use Rattle.store.specs.Store.{Holds, view}
-use Rattle.paper.specs.Sets.{Sets as FiveSets}
+use Rattle.store.proofs.LentArrays.{blank-run, but-dims, but-length, kept-but, kept-shows, now-shows, shows-length}
+use Rattle.store.proofs.Marks.{short-append}
+use Rattle.store.specs.Sets.{wishesIn}
+use Rattle.store.specs.Store.{view}
 use Rattle.store.proofs.setting.derive_and_mark_rps.Statement.{statement}
 use Rattle.store.proofs.setting.derive_and_mark_rps.Tie as tie
 
--- the pictures that are searched, M, and the sets of the definition
-abbrev ps : tie.Start → List Picture
-ps s = unmarkedIf (s .args .unmark) (view (s .args .s))
+references-of-requires : tie.Need-references-of-requires
+references-of-requires c κs = search needs
 
-abbrev M : tie.Start → ℕ
-M s = 2 ^ (min (s .args .k) 16)
+add-from : tie.Need-add-from
+add-from c = search needs
 
-abbrev five : tie.Start → FiveSets
-five s = setsOf (M s) (ps s) (wishesIn (s .args .w))
+find-long-requires : tie.Need-find-long-requires
+find-long-requires c κs = search needs
 
--- what holds after each step
-long : (c : tie.After-find-long-sets) → HoldsLong (c .find-long-sets .result) (c .before .before .args .w .lt) (longSet (M (c .before .before)) (ps (c .before .before)) (keep usedBy (wishesIn (c .before .before .args .w) .lt))) (longSet (M (c .before .before)) (ps (c .before .before)) (keep unusedBy (wishesIn (c .before .before .args .w) .lt)))
-long c = rw (is-view (c .before .unmarked-if .ensures)) at (c .find-long-sets .ensures)
-
-marked : (c : tie.After-mark-where) → Holds (c .mark-where .result) (longMarked (M (c .before .before .before .before .before)) (ps (c .before .before .before .before .before)) (wishesIn (c .before .before .before .before .before .args .w)))
-marked c =
-    let f = c .before .before .before in
-    let s = f .before .before in
-    let h = long f in
-    rw (long-marked (M s) (ps s) (wishesIn (s .args .w))) (rw (is-view (h .curr), is-view (h .foll), is-view (f .before .unmarked-if .ensures)) at (c .mark-where .ensures))
-
-refs : (c : tie.After-find-refs) → HoldsRefs (c .find-refs .result) (five (c .before .before .before .before .before .before) .before) (five (c .before .before .before .before .before .before) .after) (five (c .before .before .before .before .before .before) .ltCurr)
-unfolding setsOf
-refs c =
-    let v = view (c .before .mark-where .result) in
-    let w = wishesIn (c .before .before .before .before .before .before .args .w) in
-    let l = c .before .before .before .before in
-    let h : HoldsRefs (c .find-refs .result) (shortSet v (keep usedBy (w .neg))) (shortSet v (keep usedBy (w .pos))) (runIn (l .find-long-sets .result .curr)) = c .find-refs .ensures in
-    rw (is-view (marked (c .before)), is-view (long l .curr)) at h
-
-rest : (c : tie.After-find-rest) → HoldsRest (c .find-rest .result) (five (c .before .before .before .before .before .before .before) .foll) (five (c .before .before .before .before .before .before .before) .ltFoll)
-unfolding setsOf
-rest c = rw (is-view (marked (c .before .before)), is-view (long (c .before .before .before .before .before) .foll)) at (c .find-rest .ensures)
-
-run-a : (c : tie.After-run-of-refs) → HoldsRun (c .run-of-refs .result) (five (c .before .before .before .before .before .before .before .before) .before ++ (five (c .before .before .before .before .before .before .before .before) .after ++ five (c .before .before .before .before .before .before .before .before) .ltCurr))
-run-a c = rw (c .run-of-refs .ensures .0, c .run-of-refs .ensures .1) (refs (c .before .before) .items)
-
-run-b : (c : tie.After-run-of-rest) → HoldsRun (c .run-of-rest .result) (five (c .before .before .before .before .before .before .before .before .before) .foll ++ five (c .before .before .before .before .before .before .before .before .before) .ltFoll)
-run-b c = rw (c .run-of-rest .ensures .0, c .run-of-rest .ensures .1) (rest (c .before .before) .items)
-
-unmarked-if-requires : tie.Need-unmarked-if-requires
-unmarked-if-requires c κs = search needs
-
-find-long-sets-requires : tie.Need-find-long-sets-requires
-find-long-sets-requires c κs = search needs
+find-long-requires-2 : tie.Need-find-long-requires-2
+find-long-requires-2 c κs = search needs
 
 mark-where-requires : tie.Need-mark-where-requires
-mark-where-requires c κs = let h = long (c .before .before) in (is-good (h .curr), is-good (h .foll))
+mark-where-requires c κs = search needs
 
-find-refs-requires : tie.Need-find-refs-requires
-find-refs-requires c κs =
-    let h = long (c .before .before .before) in
-    (c .before .before .before .before .before .pre, (is-good (h .curr), h .few .0))
+find-run-requires : tie.Need-find-run-requires
+find-run-requires c κs =
+    let l = c .before .before .before .before .before .before .before .before .before .before .before .before .before .before .before in
+    let o = l .before .before .before .before .before .before .before .before .before in
+    (o .references-of .ensures .1, omega (arith, l .find-long .ensures .0, o .before .pre .few))
 
-find-rest-requires : tie.Need-find-rest-requires
-find-rest-requires c κs =
-    let h = long (c .before .before .before .before) in
-    (c .before .before .before .before .before .before .pre, (is-good (h .foll), h .few .1))
-
-run-of-refs-requires : tie.Need-run-of-refs-requires
-run-of-refs-requires c κs = search needs
-
-run-of-rest-requires : tie.Need-run-of-rest-requires
-run-of-rest-requires c κs = search needs
+find-run-requires-2 : tie.Need-find-run-requires-2
+find-run-requires-2 c κs =
+    let l = c .before .before .before .before .before .before .before .before .before .before .before .before .before .before .before .before in
+    let o = l .before .before .before .before .before .before .before .before .before .before .before .before .before .before in
+    (o .references-of .ensures .1, omega (arith, l .find-long2 .ensures .0, o .before .pre .few))
 
 mark-where-requires-2 : tie.Need-mark-where-requires-2
-mark-where-requires-2 c κs = (is-good (run-a (c .before)), is-good (run-b c))
+mark-where-requires-2 c κs =
+    let j = c .before .before .before .before in
+    let i = j .before .before .before .before .before .before in
+    let o = i .before .before .before .before .before .before .before .before .before .before .before .before .before .before .before .before .before .before .before .before .before .before .before .before .before in
+    (o .references-of .ensures .1, (i .find-run .ensures .0 .all, j .find-run2 .ensures .0 .all))
+
+with-marks-requires : tie.Need-with-marks-requires
+with-marks-requires c κs = search needs
+
+refs-of-requires : tie.Need-refs-of-requires
+refs-of-requires c κs = search needs
+
+rest-of-requires : tie.Need-rest-of-requires
+rest-of-requires c κs = search needs
 
 returns : tie.Need-returns
-unfolding marksOf
+unfolding setsOf
 returns c =
-    let b = c .before in
-    let m = c .before .before .before .before .before in
-    let s = m .before .before .before .before .before in
-    let n = longMarked (M s) (ps s) (wishesIn (s .args .w)) in
-    let h = rw (is-view (run-a (b .before)), is-view (run-b b), is-view (marked m)) at (c .mark-where2 .ensures) in
-    record { store = rw (mark-only (five s) n) h; sets = record { refs = refs (b .before .before .before); rest = rest (b .before .before) } }
+    let kept = c .before .before .before .before .before .before in
+    let rest = kept .before .before .before .before .before in
+    let refs = rest .before .before .before .before .before .before in
+    let now = refs .before .before .before .before .before .before in
+    let foll = now .before .before .before .before .before in
+    let curr = foll .before .before .before .before .before in
+    let o = curr .before .before .before .before .before .before .before .before .before in
+    let a = o .before .args in
+    let w = wishesIn (a .w) in
+    let M = 2 ^ (min (a .k) 16) in
+    let v = view (a .s) in
+    let ps = unmarkedIf (a .unmark) v in
+    let qs = longMarked M ps w in
+    let lc = longSet M ps (keep usedBy (w .lt)) in
+    let lf = longSet M ps (keep unusedBy (w .lt)) in
+    let h = o .references-of .ensures .0 in
+    let p = curr .find-long .ensures .1 ps h blank-run in
+    let q = foll .find-long2 .ensures .1 ps h blank-run in
+    let g = now-shows M ps w h (now .mark-where .ensures ps lc lf (h .mark) (h .name) p q) in
+    let x = refs .find-run .ensures .1 qs lc g p blank-run in
+    let y = rest .find-run2 .ensures .1 qs lf g q blank-run in
+    let b = shortSet qs (keep usedBy (w .neg)) in
+    let d = shortSet qs (keep usedBy (w .pos)) in
+    let e = shortSet qs (keep unusedBy (w .neg)) in
+    let f = shortSet qs (keep unusedBy (w .pos)) in
+    let t = but-dims (a .unmark) v in
+    let n = sym (shows-length ps _ _ _ _ h 0 ∙ but-length ps v t) in
+    let m = kept-shows M ps w (kept .mark-where2 .ensures qs (b ++ (d ++ lc)) (e ++ (f ++ lf)) (g .mark) (g .name) (x .run) (y .run)) n in
+    record {
+      store = c .before .before .before .before .with-marks .ensures (marksOf M ps w) m (kept-but M ps w t);
+      sets = record {
+        refs = c .before .before .refs-of .ensures b d lc x;
+        rest = rw (short-append qs (keep unusedBy (w .neg)) (keep unusedBy (w .pos))) (c .rest-of .ensures e f lf y);
+      };
+    }
 
 pub derive-and-mark-rps-spec : {M : Type 1} → statement M
 derive-and-mark-rps-spec =
     tie.close
     (tie.spec
-    unmarked-if-requires
-    find-long-sets-requires
+    references-of-requires
+    add-from
+    find-long-requires
+    find-long-requires-2
     mark-where-requires
-    find-refs-requires
-    find-rest-requires
-    run-of-refs-requires
-    run-of-rest-requires
+    find-run-requires
+    find-run-requires-2
     mark-where-requires-2
+    with-marks-requires
+    refs-of-requires
+    rest-of-requires
     returns)

@@ -1,80 +1,87 @@
 -- What was found before stands in front, and then what the wishes walked over ask for.
-use mathlib.Core.List.{[], _++_, _∷_, append-nil, map}
+use mathlib.Core.List.{[], List, _++_, _∷_, append-nil, map}
 use mathlib.Core.Path.{_∙_, _≡_, sym}
 use native.Mathlib.Omega.{arith}
 use Prim.Native.Nat.{_+_, _-_, _<_, _^_, _≤_, min}
-use lib.ListN.{drop, getD, length, length-append, length-drop, length-map, take}
+use lib.ListN.{drop, getD, length, length-drop, length-map, take}
 use lib.Seq.{getD-drop}
-use Rattle.arrays.proofs.Pad.{is-good, is-view}
+use borrow.Author.Needs.{needs}
 use Rattle.paper.specs.Words.{keep}
-use Rattle.store.proofs.Walks.{behind, sift-more, sift-short}
-use Rattle.store.specs.Members.{HoldsRun, answer, answers, flagged, runIn}
+use Rattle.paper.specs.declared.Picture.{Picture}
+use Rattle.paper.specs.declared.Serial.{Serial}
+use Rattle.store.proofs.Walks.{behind, sift-more}
+use Rattle.store.specs.References.{HoldsRun, Shows}
+use Rattle.store.specs.Members.{answer, answers, flagged}
 use Rattle.store.specs.Sets.{noWish}
-use Rattle.store.specs.Store.{view}
 use Rattle.store.proofs.setting.find_set.Statement.{statement}
 use Rattle.store.proofs.setting.find_set.Tie as tie
 
 abbrev Inv-loop : tie.InvT-loop
-Inv-loop s a from n w t₀ i₀ t i = (i ≤ n) × ((t .len ≤ t₀ .len + i) × HoldsRun t (runIn t₀ ++ answers a (view s) (take i (drop from (w .items)))))
+Inv-loop pocs marks names stored a from n into₀ len wishes t₀ i₀ into t i =
+    (i ≤ n) × ((len ≤ t) × ((t ≤ len + i) × ((ps : List Picture) (l : List Serial) → Shows ps pocs marks names stored → HoldsRun into₀ len l → HoldsRun into t (l ++ answers a ps (take i (drop from wishes))))))
 
 abbrev μ-loop : tie.MeasureT-loop
-μ-loop s a from n w t₀ i₀ t i = n - i
+μ-loop pocs marks names stored a from n into₀ len wishes t₀ i₀ into t i = n - i
 
-long : (c : tie.Start Inv-loop μ-loop) → length (c .args .t3 .items) ≡ 16
-long c = sym (length-map (c .args .t3 .items) _) ∙ c .good .1 .1 .0 .1 .1 .0 .1 .0 .1
+long : (c : tie.Start Inv-loop μ-loop) → length (c .args .t6) ≡ 16
+long c = search needs
 
 loop-holds : tie.Need-loop-holds Inv-loop μ-loop
 unfolding keep
-loop-holds c = (omega arith, (omega arith, rw append-nil (c .pre .good)))
+loop-holds c = (omega arith, (omega arith, (omega arith, λ ps l h g. rw append-nil g)))
 
 add-at : tie.Need-add-at Inv-loop μ-loop
-add-at c = omega (arith, c .before .before .pre .within)
+add-at c = omega (arith, c .before .before .pre .1 .within)
 
 mul-e : tie.Need-mul-e Inv-loop μ-loop
-mul-e c = omega (arith, c .before .before .pre .within)
+mul-e c = omega (arith, c .before .before .pre .1 .within)
 
-element-copy-out-e : tie.Need-element-copy-out-e Inv-loop μ-loop
-element-copy-out-e c = omega (arith, c .before .before .pre .within)
+array-copy-out-e : tie.Need-array-copy-out-e Inv-loop μ-loop
+array-copy-out-e c = omega (arith, c .before .before .pre .1 .within)
 
 find-one-requires : tie.Need-find-one-requires Inv-loop μ-loop
 find-one-requires c κs =
-    let k = c .before .before in
-    let v = k .loop .inv .1 in
-    (is-good (v .1), omega (arith, v .0, k .before .pre .room))
+    let k = c .before .before .before in
+    let s = k .before in
+    (s .pre .0, omega (arith, k .loop .inv .1 .1 .0, s .pre .1 .room))
 
 add-i : tie.Need-add-i Inv-loop μ-loop
-add-i c = omega (arith, c .before .before .before .before .pre .within)
+add-i c = omega (arith, c .before .before .before .before .before .pre .1 .within)
 
 loop-less : tie.Need-loop-less Inv-loop μ-loop
 loop-less c = omega arith
 
 loop-again : tie.Need-loop-again Inv-loop μ-loop
 loop-again c =
-    let k = c .before .before .before in
+    let k = c .before .before .before .before in
     let s = k .before in
     let a = s .args .a in
-    let f = flagged (a .used) in
-    let g = answer (a .long) (2 ^ (min (a .k) 16)) (view (s .args .s)) in
-    let l = drop (s .args .from) (s .args .t3 .items) in
     let i = k .loop .i in
     let v = k .loop .inv .1 in
-    let lt : i < length l = omega (arith, length-drop (s .args .from) (s .args .t3 .items), long s, s .pre .within) in
-    let e = behind (runIn (s .args .into)) (map g (keep f (take i l))) (map g (keep f (getD l i noWish ∷ []))) (sift-more f g l i noWish lt) in
-    let h = rw (is-view (v .1), ← getD-drop (s .args .from) (s .args .t3 .items) i noWish, e) at (c .find-one .ensures) in
-    let b = sift-short f g l (i + 1) in
-    let j = length-append (runIn (s .args .into)) (map g (keep f (take (i + 1) l))) in
-    (omega arith, (omega (arith, h .long, b, j, s .pre .good .long), h))
+    let w = drop (s .args .from) (s .args .t6) in
+    let f = flagged (a .used) in
+    let r = c .find-one .ensures in
+    let lt : i < length w = omega (arith, length-drop (s .args .from) (s .args .t6), long s, s .pre .1 .within) in (
+      omega arith,
+      (
+        omega (arith, v .0, r .0 .0),
+        (
+          omega (arith, v .1 .0, r .0 .1),
+          λ ps l h g.
+              let q = answer (a .long) (2 ^ (min (a .k) 16)) ps in
+              let e = behind l (map q (keep f (take i w))) (map q (keep f (getD w i noWish ∷ []))) (sift-more f q w i noWish lt) in
+              rw (← getD-drop (s .args .from) (s .args .t6) i noWish, e) at (r .1 ps (l ++ map q (keep f (take i w))) h (v .1 .1 ps l h g)),
+        ),
+      ),
+    )
 
 returns : tie.Need-returns Inv-loop μ-loop
 returns c =
     let k = c .before in
     let s = k .before in
-    let a = s .args .a in
     let v = k .loop .inv .1 in
     let e : k .loop .i ≡ s .args .n = omega arith in
-    let h = rw e at (v .1) in
-    let j = length-append (runIn (s .args .into)) (answers a (view (s .args .s)) (take (s .args .n) (drop (s .args .from) (s .args .t3 .items)))) in
-    record { holds = h; more = omega (arith, h .long, j, s .pre .good .long); few = rw e at (v .0) }
+    ((v .0, rw e at (v .1 .0)), λ ps l h g. rw e at (v .1 .1 ps l h g))
 
 pub find-set-spec : {M : Type 1} → statement M
 find-set-spec =
@@ -85,7 +92,7 @@ find-set-spec =
     loop-holds
     add-at
     mul-e
-    element-copy-out-e
+    array-copy-out-e
     find-one-requires
     add-i
     loop-less
