@@ -1,0 +1,55 @@
+-- Each file is looked at where its bytes wait.
+use mathlib.Core.Path.{sym}
+use lib.Seq.{length-take-le}
+use borrow.Author.Needs.{needs}
+use Rattle.ledger.proofs.starve.Statement.{statement}
+use Rattle.ledger.proofs.starve.Tie as tie
+
+slice-reshare-prefix-size : tie.Need-slice-reshare-prefix-size
+slice-reshare-prefix-size c = search needs
+
+slice-aggregate-size : tie.Need-slice-aggregate-size
+slice-aggregate-size c = let s = c .before .before .before .before .before in sym (length-take-le (s .args .s .records .held) (s .args .records .now) (s .pre .0))
+
+size-requires : tie.Need-size-requires
+size-requires c κs = search needs
+
+slice-reshare-prefix-size-2 : tie.Need-slice-reshare-prefix-size-2
+slice-reshare-prefix-size-2 c = search needs
+
+slice-aggregate-size-2 : tie.Need-slice-aggregate-size-2
+slice-aggregate-size-2 c = let s = c .before .before .before .before .before .before .before in sym (length-take-le (s .args .s .replies .held) (s .args .replies .now) (s .pre .1))
+
+size-requires-2 : tie.Need-size-requires-2
+size-requires-2 c κs = search needs
+
+next-move-requires : tie.Need-next-move-requires
+next-move-requires c κs = search needs
+
+go-on-requires : tie.Need-go-on-requires
+go-on-requires c κs = search needs
+
+same-length : tie.Need-same-length
+same-length c = search needs
+
+same-length-2 : tie.Need-same-length-2
+same-length-2 c = search needs
+
+returns : tie.Need-returns
+returns c = search needs
+
+pub starve-spec : {M : Type 1} → statement M
+starve-spec =
+    tie.close
+    (tie.spec
+    slice-reshare-prefix-size
+    slice-aggregate-size
+    size-requires
+    slice-reshare-prefix-size-2
+    slice-aggregate-size-2
+    size-requires-2
+    next-move-requires
+    go-on-requires
+    same-length
+    same-length-2
+    returns)

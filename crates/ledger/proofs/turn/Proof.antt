@@ -1,0 +1,81 @@
+-- What is taken lies within what is held, so the rest can be moved to the start.
+use native.Mathlib.Omega.{arith}
+use mathlib.Core.Path.{sym}
+use lib.Seq.{length-take-le}
+use Rattle.ledger.proofs.Within.{within}
+use borrow.Author.Needs.{needs}
+use Rattle.ledger.proofs.turn.Statement.{statement}
+use Rattle.ledger.proofs.turn.Tie as tie
+
+slice-reshare-prefix-hear-all : tie.Need-slice-reshare-prefix-hear-all
+slice-reshare-prefix-hear-all c = search needs
+
+slice-aggregate-hear-all : tie.Need-slice-aggregate-hear-all
+slice-aggregate-hear-all c = let s = c .before .before .before .before .before .before in sym (length-take-le (s .args .s .records .held) (s .args .records .now) (s .pre .0))
+
+slice-reshare-prefix-hear-all-2 : tie.Need-slice-reshare-prefix-hear-all-2
+slice-reshare-prefix-hear-all-2 c = search needs
+
+slice-aggregate-hear-all-2 : tie.Need-slice-aggregate-hear-all-2
+slice-aggregate-hear-all-2 c = let s = c .before .before .before .before .before .before .before in sym (length-take-le (s .args .s .replies .held) (s .args .replies .now) (s .pre .1))
+
+hear-all-requires : tie.Need-hear-all-requires
+hear-all-requires c κs = search needs
+
+starve-requires : tie.Need-starve-requires
+starve-requires c κs = search needs
+
+same-length : tie.Need-same-length
+same-length c = search needs
+
+same-length-2 : tie.Need-same-length-2
+same-length-2 c = search needs
+
+returns : tie.Need-returns
+returns c = search needs
+
+shift-requires : tie.Need-shift-requires
+shift-requires c κs = let s = c .before .before .before .before .before .before .before .before .before .before in (within (s .args .s .records .held) (s .args .records .now) (s .pre .0) (c .before .before .hear-all .ensures .taken), s .pre .0)
+
+shift-requires-2 : tie.Need-shift-requires-2
+shift-requires-2 c κs = let s = c .before .before .before .before .before .before .before .before .before .before .before .before .before .before in (within (s .args .s .replies .held) (s .args .replies .now) (s .pre .1) (c .before .before .before .before .before .before .hear-all .ensures .answered), s .pre .1)
+
+without-requires : tie.Need-without-requires
+without-requires c κs = let s = c .before .before .before .before .before .before .before .before .before .before .before .before .before .before .before .before .before .before in within (s .args .s .records .held) (s .args .records .now) (s .pre .0) (c .before .before .before .before .before .before .before .before .before .before .hear-all .ensures .taken)
+
+without-requires-2 : tie.Need-without-requires-2
+without-requires-2 c κs = let s = c .before .before .before .before .before .before .before .before .before .before .before .before .before .before .before .before .before .before .before in within (s .args .s .replies .held) (s .args .replies .now) (s .pre .1) (c .before .before .before .before .before .before .before .before .before .before .before .hear-all .ensures .answered)
+
+plus-requires : tie.Need-plus-requires
+plus-requires c κs = search needs
+
+same-length-3 : tie.Need-same-length-3
+same-length-3 c = search needs
+
+same-length-4 : tie.Need-same-length-4
+same-length-4 c = search needs
+
+returns-2 : tie.Need-returns-2
+returns-2 c = (omega (arith, c .before .before .before .without .ensures, c .before .before .before .before .before .before .before .before .before .before .before .before .before .before .before .before .before .before .before .before .before .before .pre .0, c .before .before .before .before .before .before .before .before .before .before .before .shift .kept .0), omega (arith, c .before .before .without2 .ensures, c .before .before .before .before .before .before .before .before .before .before .before .before .before .before .before .before .before .before .before .before .before .before .pre .1, c .before .before .before .before .before .before .before .shift2 .kept .0))
+
+pub turn-spec : {M : Type 1} → statement M
+turn-spec =
+    tie.close
+    (tie.spec
+    slice-reshare-prefix-hear-all
+    slice-aggregate-hear-all
+    slice-reshare-prefix-hear-all-2
+    slice-aggregate-hear-all-2
+    hear-all-requires
+    starve-requires
+    same-length
+    same-length-2
+    returns
+    shift-requires
+    shift-requires-2
+    without-requires
+    without-requires-2
+    plus-requires
+    same-length-3
+    same-length-4
+    returns-2)

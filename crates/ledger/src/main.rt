@@ -1,0 +1,269 @@
+// `ledger RECORDS REPLIES`: checks from a file of records and a file of replies alone that no frame was read after it was given back (demand 3 of document
+// 01). It trusts nothing of the replies, reads both files in blocks with constant memory, and says `kept` or the first reply that breaks a part.
+mod saying;
+
+use watch::Book;
+ghost use mathlib.Core.Path.{_≡_};
+ghost use Prim.Native.Nat.{_+_, _-_, _≤_, min};
+ghost use lib.ListN.{length};
+ghost use Rattle.ledger.specs.Moves.{moveOf};
+
+// A record or a reply has at most 65,539 bytes, so there is always room to read on behind one that is not whole yet.
+const INPUT: usize = 131072;
+
+// One of the two files: how many of its bytes wait at the start of its buffer, and whether it has ended or could not be read.
+struct Feed {
+    fd: i32,
+    held: usize,
+    ended: bool,
+    failed: bool,
+}
+
+// The book, how many exchanges broke nothing, the two files, the part that the next exchange breaks, and whether the run goes on.
+struct State {
+    book: Book,
+    number: u64,
+    records: Feed,
+    replies: Feed,
+    part: u8,
+    more: bool,
+}
+
+// What is done where no whole record or no whole reply is left: one of the files is read on, or the run ends with a part, or with 0.
+enum Move {
+    Records,
+    Replies,
+    Stop(u8),
+}
+
+// 18: a reply without its record; 17: a record without its reply; 1: a rest of the replies that is no whole reply. A rest of the records that is no whole
+// record has no reply. `said`, `answered`: a whole record, a whole reply is left.
+fn next_move(said: bool, all_said: bool, answered: bool, all_answered: bool, rest: bool) -> Move
+    ensures { λ r. ⌜ r ≡ moveOf said «all_said» answered «all_answered» rest ⌝ }
+{
+    if !said & !all_said {
+        return Move::Records;
+    }
+    if !said & answered {
+        return Move::Stop(18);
+    }
+    if !all_answered {
+        return Move::Replies;
+    }
+    if rest {
+        return Move::Stop(1);
+    }
+    if said { Move::Stop(17) } else { Move::Stop(0) }
+}
+
+// The sum, stopping at the greatest value.
+fn plus(a: u64, n: usize) -> u64
+    ensures { λ r. ⌜ r ≡ min (a + n) 18446744073709551615 ⌝ }
+{
+    let m = n as u64;
+    if a < 18446744073709551615 - m {
+        a + m
+    } else {
+        18446744073709551615
+    }
+}
+
+// One read behind the bytes that wait. None is read at the end of the file, or where it can't be read; a buffer that is full, as none is behind a record
+// that is not whole, counts as a file that can't be read, so that no verdict rests on it.
+fn read_on(f: Feed, bytes: &mut [u8]) -> Feed
+    requires { ⌜ f .held ≤ length (now bytes) ⌝ }
+    ensures { λ r. ⌜ r .held ≤ length (now (bytes .exit)) ⌝ }
+{
+    let held = f.held;
+    let fd = f.fd;
+    let full = held == bytes.len();
+    let rest = &mut bytes[held..];
+    let got = libc::read(fd, rest);
+    let n = io::count(got, rest);
+    Feed {
+        fd,
+        held: held + n,
+        ended: n == 0,
+        failed: (got < 0) | full,
+    }
+}
+
+// The bytes behind the first n wait now.
+fn without(f: Feed, n: usize) -> Feed
+    requires { ⌜ n ≤ f .held ⌝ }
+    ensures { λ r. ⌜ r .held ≡ f .held - n ⌝ }
+{
+    Feed {
+        fd: f.fd,
+        held: f.held - n,
+        ended: f.ended,
+        failed: f.failed,
+    }
+}
+
+// Reads one of the files on, or ends the run.
+fn go_on(s: State, m: Move, records: &mut [u8], replies: &mut [u8]) -> State
+    requires { ⌜ (s .records .held ≤ length (now records)) × (s .replies .held ≤ length (now replies)) ⌝ }
+    ensures { λ r. ⌜ (r .records .held ≤ length (now (records .exit))) × (r .replies .held ≤ length (now (replies .exit))) ⌝ }
+{
+    let book = s.book;
+    let a = s.records;
+    let b = s.replies;
+    match m {
+        Move::Records => {
+            let f = read_on(a, records);
+            State {
+                book,
+                number: s.number,
+                records: f,
+                replies: b,
+                part: 0,
+                more: !f.failed,
+            }
+        }
+        Move::Replies => {
+            let f = read_on(b, replies);
+            State {
+                book,
+                number: s.number,
+                records: a,
+                replies: f,
+                part: 0,
+                more: !f.failed,
+            }
+        }
+        Move::Stop(part) => State {
+            book,
+            number: s.number,
+            records: a,
+            replies: b,
+            part,
+            more: false,
+        },
+    }
+}
+
+// What to do where no exchange is whole.
+fn starve(s: State, records: &mut [u8], replies: &mut [u8]) -> State
+    requires { ⌜ (s .records .held ≤ length (now records)) × (s .replies .held ≤ length (now replies)) ⌝ }
+    ensures { λ r. ⌜ (r .records .held ≤ length (now (records .exit))) × (r .replies .held ≤ length (now (replies .exit))) ⌝ }
+{
+    let a = s.records;
+    let b = s.replies;
+    let n = a.held;
+    let k = b.held;
+    let said = framing::size(&records[..n]) > 0;
+    let answered = framing::size(&replies[..k]) > 0;
+    let m = next_move(said, a.ended, answered, b.ended, k > 0);
+    go_on(s, m, records, replies)
+}
+
+// Hears the exchanges that are whole, and makes room for more; where none is whole, reads on.
+fn turn(s: State, records: &mut [u8], replies: &mut [u8]) -> State
+    requires { ⌜ (s .records .held ≤ length (now records)) × (s .replies .held ≤ length (now replies)) ⌝ }
+    ensures { λ r. ⌜ (r .records .held ≤ length (now (records .exit))) × (r .replies .held ≤ length (now (replies .exit))) ⌝ }
+{
+    let a = s.records;
+    let b = s.replies;
+    let n = a.held;
+    let k = b.held;
+    let held = s.book;
+    let p = watch::hear_all(held, &records[..n], &replies[..k]);
+    let taken = p.taken;
+    let answered = p.answered;
+    if taken == 0 {
+        return starve(s, records, replies);
+    }
+    framing::shift(records, taken, n);
+    framing::shift(replies, answered, k);
+    let book = p.book;
+    let x = without(a, taken);
+    let y = without(b, answered);
+    State {
+        book,
+        number: plus(s.number, p.pairs),
+        records: x,
+        replies: y,
+        part: p.part,
+        more: p.part == 0,
+    }
+}
+
+// Turn after turn from a new book. Nothing says that the files end, so the turns are counted.
+fn run(records_fd: i32, replies_fd: i32, records: &mut [u8], replies: &mut [u8]) -> State {
+    let mut s = State {
+        book: Book::new(),
+        number: 0,
+        records: Feed {
+            fd: records_fd,
+            held: 0,
+            ended: false,
+            failed: false,
+        },
+        replies: Feed {
+            fd: replies_fd,
+            held: 0,
+            ended: false,
+            failed: false,
+        },
+        part: 0,
+        more: true,
+    };
+    let mut left: u64 = 18446744073709551615;
+    while left > 0 {
+        s = turn(s, records, replies);
+        if !s.more {
+            return s;
+        }
+        left -= 1;
+    }
+    s
+}
+
+// Opens the file that an argument names, and says so where it can't.
+fn open(i: usize) -> i32 {
+    let mut path = io::buffer();
+    let n = os::arg(i, &mut path);
+    if os::errno() != 0 {
+        os::fail(b"ledger: the file's name");
+        return -1;
+    }
+    let fd = os::open_read(&path[..n]);
+    if fd < 0 {
+        os::fail(&path[..n]);
+    }
+    fd
+}
+
+// Both buffers are here, of one size for any length of the files.
+fn main() {
+    if os::arg_count() != 3 {
+        io::write_all(2, b"usage: ledger RECORDS REPLIES\n");
+        return;
+    }
+    let a = open(1);
+    let b = open(2);
+    if (a < 0) | (b < 0) {
+        return;
+    }
+    let mut records = [0u8; INPUT];
+    let mut replies = [0u8; INPUT];
+    let s = run(a, b, &mut records, &mut replies);
+    finish(s);
+}
+
+// What is said at the end.
+fn finish(s: State) {
+    let a = s.records;
+    let b = s.replies;
+    let book = s.book;
+    if a.failed | b.failed {
+        os::fail(b"ledger: a file");
+        return;
+    }
+    if s.part != 0 {
+        saying::broken(plus(s.number, 1), s.part);
+        return;
+    }
+    saying::kept(book, s.number);
+}

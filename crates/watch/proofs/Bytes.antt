@@ -1,0 +1,157 @@
+-- The bytes of a reply: the words and events that stand at a place.
+use Prim.Native.Nat.{ℕ, zero, suc, _+_, _-_, _*_, _≤_, _<_, min}
+use mathlib.Core.Path.{_≡_, refl, sym, ap, _∙_}
+use mathlib.Core.Bool.{Bool, true, false, cond, not, _&&_, _||_}
+use mathlib.Core.List.{List, [], _∷_, _++_, map, map-append, append-assoc}
+use native.Mathlib.Omega.{arith}
+use native.Mathlib.Numerals.{add-one}
+use lib.ListN.{length, drop, getD, length-map}
+use lib.Seq.{getD-drop, drop-drop}
+use lib.Dec.{eqb}
+use borrow.Author.Tests.{eq-eqb, ne-eqb}
+use Rattle.paper.specs.Numbers.{u8, u16, u32, i32, aSerial, aSurface}
+use Rattle.paper.specs.WholeReply.{thrownAt, releasedAt}
+use Rattle.paper.specs.Ledger.{Event, Hand, Throw, Free, readWords, readShown, readReleased, readTail, events, none}
+use Rattle.watch.specs.declared.events.Part.{Part}
+use Rattle.watch.specs.declared.events.Part.the-variants.{Handed, Thrown, Released}
+use Rattle.watch.specs.Events.{shownAt, eventAt, sizeOf, eventsOf, counted}
+use Rattle.paper.specs.declared.Shown.{Shown}
+use Rattle.paper.proofs.Bools.{split}
+
+-- ---- a number at a place
+
+pub u8-drop : (k : ℕ) (r : List ℕ) → u8 (drop k r) 0 ≡ u8 r k
+u8-drop k r = let e : k + 0 ≡ k = omega arith in rw e at (getD-drop k r 0 0)
+
+pub u32-drop : (k i : ℕ) (r : List ℕ) → u32 (drop k r) i ≡ u32 r (k + i)
+u32-drop k i r =
+    let p : k + (i + 1) ≡ k + i + 1 = omega arith in
+    let q : k + (i + 2) ≡ k + i + 2 = omega arith in
+    let s : k + (i + 2 + 1) ≡ k + i + 2 + 1 = omega arith in
+    rw (getD-drop k r i 0, getD-drop k r (i + 1) 0, getD-drop k r (i + 2) 0, getD-drop k r (i + 2 + 1) 0, p, q, s)
+
+-- ---- the words and events from a place on
+
+pub u32-at : (k : ℕ) (r : List ℕ) → u32 (drop k r) 0 ≡ u32 r k
+u32-at k r = let e : k + 0 ≡ k = omega arith in u32-drop k 0 r ∙ ap (u32 r) e
+
+pub words-more : (m k : ℕ) (r : List ℕ) → readWords (suc m) (drop k r) ≡ u32 r k ∷ readWords m (drop (k + 4) r)
+unfolding readWords
+words-more m k r = rw (u32-at k r, drop-drop 4 k r)
+
+shown-more : (m k : ℕ) (r : List ℕ) → readShown (suc m) (drop k r) ≡ shownAt r k ∷ readShown m (drop (k + 12) r)
+unfolding readShown
+shown-more m k r = rw (u32-at k r, u32-drop k 4 r, u32-drop k 8 r, drop-drop 12 k r)
+
+pub events-more : (p : Part) (m k : ℕ) (r : List ℕ) → eventsOf p (suc m) (drop k r) ≡ eventAt p r k ∷ eventsOf p m (drop (k + sizeOf p) r)
+unfolding eventsOf eventAt sizeOf
+events-more Handed m k r = rw (shown-more m k r)
+events-more Thrown m k r = rw (words-more m k r)
+events-more Released m k r = rw (words-more m k r)
+
+pub events-none : (p : Part) (bs : List ℕ) → eventsOf p 0 bs ≡ []
+unfolding eventsOf readShown readWords
+events-none Handed bs = refl
+events-none Thrown bs = refl
+events-none Released bs = refl
+
+-- two runs of words
+pub words-append : (n m k : ℕ) (r : List ℕ) → readWords (n + m) (drop k r) ≡ readWords n (drop k r) ++ readWords m (drop (k + 4 * n) r)
+unfolding readWords
+words-append zero m k r =
+    let e : zero + m ≡ m = omega arith in
+    let f : k + 4 * zero ≡ k = omega arith in
+    ap (λ (x : ℕ). readWords x (drop k r)) e ∙ ap (λ (x : ℕ). readWords m (drop x r)) (sym f)
+words-append (suc n) m k r =
+    let e : suc n + m ≡ suc (n + m) = omega arith in
+    let f : k + 4 + 4 * n ≡ k + 4 * suc n = omega arith in
+    ap (λ (x : ℕ). readWords x (drop k r)) e
+    ∙ words-more (n + m) k r
+    ∙ ap (λ (x : List ℕ). u32 r k ∷ x) (words-append n m (k + 4) r ∙ ap (λ (x : ℕ). readWords n (drop (k + 4) r) ++ readWords m (drop x r)) f)
+    ∙ ap (λ (x : List ℕ). x ++ readWords m (drop (k + 4 * suc n) r)) (sym (words-more n k r))
+
+-- ---- a tail, by its three parts
+
+pub tail-events : (at : ℕ) (r : List ℕ)
+    → events (readTail (drop at r)) ≡ counted Handed (drop at r) ++ (counted Thrown (drop (thrownAt r at) r) ++ counted Released (drop (releasedAt r at) r))
+unfolding readTail readReleased counted eventsOf
+tail-events at r =
+    let n = u8 r at in
+    let m = u8 r (thrownAt r at) in
+    let a : u8 (drop at r) 0 ≡ n = u8-drop at r in
+    let g : at + (1 + 12 * n) ≡ thrownAt r at = omega arith in
+    let b : drop (12 * n) (drop 1 (drop at r)) ≡ drop (thrownAt r at) r = drop-drop (12 * n) 1 (drop at r) ∙ drop-drop (1 + 12 * n) at r ∙ ap (λ (k : ℕ). drop k r) g in
+    let d : u8 (drop (thrownAt r at) r) 0 ≡ m = u8-drop (thrownAt r at) r in
+    let h : thrownAt r at + (1 + 4 * m) ≡ releasedAt r at = omega arith in
+    let e : drop (4 * m) (drop 1 (drop (thrownAt r at) r)) ≡ drop (releasedAt r at) r = drop-drop (4 * m) 1 (drop (thrownAt r at) r) ∙ drop-drop (1 + 4 * m) (thrownAt r at) r ∙ ap (λ (k : ℕ). drop k r) h in
+    rw (a, b, d, e)
+
+-- ---- how many
+
+length-words : (n : ℕ) (bs : List ℕ) → length (readWords n bs) ≡ n
+unfolding readWords
+length-words zero bs = refl
+length-words (suc n) bs = ap suc (length-words n (drop 4 bs))
+
+length-shown : (n : ℕ) (bs : List ℕ) → length (readShown n bs) ≡ n
+unfolding readShown
+length-shown zero bs = refl
+length-shown (suc n) bs = ap suc (length-shown n (drop 12 bs))
+
+not-none : (n : ℕ) → eqb (suc n) 0 ≡ false
+not-none n = let h : suc n ≡ 0 → ⊥ = omega arith in ne-eqb (suc n) 0 h
+
+none-words : {A : Type 0} (f : ℕ → A) (n : ℕ) (bs : List ℕ) → none (map f (readWords n bs)) ≡ eqb n 0
+unfolding readWords none
+none-words f zero bs = refl
+none-words f (suc n) bs = sym (not-none n)
+
+none-events : (p : Part) (n : ℕ) (bs : List ℕ) → none (eventsOf p n bs) ≡ eqb n 0
+unfolding eventsOf readShown readWords none
+none-events Handed zero bs = refl
+none-events Handed (suc n) bs = sym (not-none n)
+none-events Thrown zero bs = refl
+none-events Thrown (suc n) bs = sym (not-none n)
+none-events Released zero bs = refl
+none-events Released (suc n) bs = sym (not-none n)
+
+none-counted : (p : Part) (k : ℕ) (r : List ℕ) → none (counted p (drop k r)) ≡ eqb (u8 r k) 0
+unfolding counted
+none-counted p k r = none-events p (u8 (drop k r) 0) (drop 1 (drop k r)) ∙ ap (λ (n : ℕ). eqb n 0) (u8-drop k r)
+
+none-append : {A : Type 0} (xs ys : List A) → none (xs ++ ys) ≡ (none xs && none ys)
+unfolding none
+none-append [] ys = refl
+none-append (x ∷ xs) ys = refl
+
+pub counted-is : (p : Part) (k : ℕ) (r : List ℕ) → counted p (drop k r) ≡ eventsOf p (u8 r k) (drop (k + 1) r)
+unfolding counted
+counted-is p k r = rw (u8-drop k r, drop-drop 1 k r)
+
+module _ (at : ℕ) (r : List ℕ) where
+  pub quiet-tail : none (events (readTail (drop at r))) ≡ (eqb (u8 r at) 0 && (eqb (u8 r (thrownAt r at)) 0 && eqb (u8 r (releasedAt r at)) 0))
+  quiet-tail =
+      let x = counted Handed (drop at r) in
+      let y = counted Thrown (drop (thrownAt r at) r) in
+      let z = counted Released (drop (releasedAt r at) r) in
+      rw (tail-events at r, none-append x (y ++ z), none-append y z, none-counted Handed at r, none-counted Thrown (thrownAt r at) r, none-counted Released (releasedAt r at) r)
+
+  -- the serials thrown away stand behind the second count
+  thrown-is : readTail (drop at r) .thrown ≡ map aSerial (readWords (u8 r (thrownAt r at)) (drop (thrownAt r at + 1) r))
+  unfolding readTail readReleased
+  thrown-is =
+      let n = u8 r at in
+      let a : u8 (drop at r) 0 ≡ n = u8-drop at r in
+      let g : at + (1 + 12 * n) ≡ thrownAt r at = omega arith in
+      let b : drop (12 * n) (drop 1 (drop at r)) ≡ drop (thrownAt r at) r = drop-drop (12 * n) 1 (drop at r) ∙ drop-drop (1 + 12 * n) at r ∙ ap (λ (k : ℕ). drop k r) g in
+      rw (a, b, u8-drop (thrownAt r at) r, drop-drop 1 (thrownAt r at) r)
+
+  pub none-thrown : none (readTail (drop at r) .thrown) ≡ eqb (u8 r (thrownAt r at)) 0
+  none-thrown = rw thrown-is (none-words aSerial (u8 r (thrownAt r at)) (drop (thrownAt r at + 1) r))
+
+  pub thrown-count : length (readTail (drop at r) .thrown) ≡ u8 r (thrownAt r at)
+  thrown-count = rw thrown-is (length-map (readWords (u8 r (thrownAt r at)) (drop (thrownAt r at + 1) r)) aSerial ∙ length-words (u8 r (thrownAt r at)) (drop (thrownAt r at + 1) r))
+
+  pub handed-count : length (readTail (drop at r) .handed) ≡ u8 r at
+  unfolding readTail
+  handed-count = length-shown (u8 (drop at r) 0) (drop 1 (drop at r)) ∙ u8-drop at r

@@ -1,0 +1,59 @@
+-- What the contracts come to: the result of `hear` is determined whole, and its book is the paper's ledger.
+use Prim.Native.Nat.{ℕ, _≤_, min}
+use mathlib.Core.Path.{_≡_, refl, sym, ap, _∙_}
+use mathlib.Core.Bool.{Bool, true, false}
+use mathlib.Core.List.{List, [], _∷_}
+use native.Mathlib.Omega.{arith}
+use lib.Dec.{eqb}
+use borrow.Author.Tests.{eqb-true, eqb-false}
+use Rattle.arrays.specs.Pad.{Padded, used}
+use Rattle.arrays.proofs.Pad.{is-view}
+use Rattle.paper.specs.Ledger.{Ledger, blank, hear, readReply}
+use Rattle.paper.specs.Watch.{partOf}
+use Rattle.paper.specs.declared.Line.{Line}
+use Rattle.paper.proofs.Bools.{split}
+use Rattle.watch.specs.declared.Slot.{Slot}
+use Rattle.watch.specs.declared.Slot.the-variants.{Idle, Is}
+use Rattle.watch.specs.declared.Tally.{Tally}
+use Rattle.watch.specs.declared.Book.{Book}
+use Rattle.watch.specs.declared.Heard.{Heard}
+use Rattle.watch.specs.Book.{view, clamped, currentIn, bookIn, HoldsBook, tallied, noTally}
+use Rattle.watch.specs.Hears.{Hears}
+
+one-slot : (x y : Slot) → currentIn x ≡ currentIn y → x ≡ y
+one-slot Idle Idle e = refl
+one-slot Idle (Is f) e = absurd (let z : _≡_ {A = ℕ} 0 1 = cc in omega arith)
+one-slot (Is f) Idle e = absurd (let z : _≡_ {A = ℕ} 0 1 = cc in omega arith)
+one-slot (Is f) (Is g) e = let z : f ≡ g = cc in ap Is z
+
+-- a book in normal form is determined by its ledger and its tally
+pub one-book : {b c : Book} {L : Ledger} {t : Tally} → HoldsBook b L t → HoldsBook c L t → b ≡ c
+one-book {b} {c} h g =
+    let p = h .held .places ∙ sym (g .held .places) in
+    let n = h .held .long ∙ sym (g .held .long) in
+    let s = one-slot (b .current) (c .current) (h .current ∙ sym (g .current)) in
+    let m = h .begun ∙ sym (g .begun) in
+    let t = h .tally ∙ sym (g .tally) in
+    λ i. record { held = record { items = p i; len = n i }; current = s i; begun = m i; tally = t i }
+
+-- Any two results that the contract of `hear` permits are equal
+pub determined : {b : Book} {r a : List ℕ} {h k : Heard} → Hears b r a h → Hears b r a k → h ≡ k
+determined {b} {r} {a} {h} {k} x y =
+    let n = x .part ∙ sym (y .part) in
+    let m : h .book ≡ k .book =
+    split (eqb (partOf (bookIn b) r a) 0)
+    (λ e. let z = eqb-true (partOf (bookIn b) r a) 0 e in one-book (x .kept z) (y .kept z))
+    (λ e. let z = eqb-false (partOf (bookIn b) r a) 0 e in x .broken z ∙ sym (y .broken z)) in
+    λ i. record { part = n i; book = m i }
+
+-- a book in normal form holds at most 16 lines, so nothing is cut off
+pub whole-view : {b : Book} {L : Ledger} {t : Tally} → HoldsBook b L t → view (clamped (b .held)) ≡ L .held
+whole-view {b} h = let e : min (b .held .len) 16 ≡ b .held .len = omega (arith, h .few) in ap (λ (n : ℕ). used n (b .held .items)) e ∙ is-view (h .held)
+
+-- and is the ledger, where all was in order
+pub book-is : {b : Book} {L : Ledger} {t : Tally} → HoldsBook b L t → L .ok ≡ true → bookIn b ≡ L
+book-is h o = let p = whole-view h in λ i. record { held = p i; current = h .current i; begun = h .begun i; ok = sym o i }
+
+-- a new book is the blank ledger
+pub new-is-blank : {b : Book} → HoldsBook b blank noTally → bookIn b ≡ blank
+new-is-blank h = book-is h refl

@@ -1,0 +1,10 @@
+pub mod Walks
+pub mod Pocs
+pub mod Bytes
+pub mod Parts
+pub mod Replies
+pub mod Ways
+pub mod Hearing
+pub mod Determined
+pub mod Sizes
+pub mod Exchanges

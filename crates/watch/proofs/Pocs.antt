@@ -1,0 +1,31 @@
+-- The machine's test of two signed numbers.
+use mathlib.Core.Path.{_≡_, refl, sym, ap, _∙_}
+use mathlib.Core.Bool.{true, false}
+use lib.Dec.{eqb}
+use lib.IntN.{ℤ, pos, negsuc}
+use mir.Syntax.{Width}
+use mir.Val.{SFits, toZ, ofZ}
+use mir.ValLaws.{toZ-ofZ}
+use borrow.Author.Tests.{eqb-true, eqb-false, eq-eqb, ne-eqb}
+use Rattle.paper.specs.Poc.{eqZ}
+use Rattle.paper.proofs.Bools.{split}
+
+eqZ-refl : (a : ℤ) → eqZ a a ≡ true
+eqZ-refl (pos a) = eq-eqb a a refl
+eqZ-refl (negsuc a) = eq-eqb a a refl
+
+eqZ-same : (a b : ℤ) → a ≡ b → eqZ a b ≡ true
+eqZ-same a b e = rw (← e) (eqZ-refl a)
+
+eqZ-diff : (a b : ℤ) → (a ≡ b → ⊥) → eqZ a b ≡ false
+eqZ-diff (pos a) (pos b) n = ne-eqb a b (λ e. n (ap pos e))
+eqZ-diff (pos a) (negsuc b) n = refl
+eqZ-diff (negsuc a) (pos b) n = refl
+eqZ-diff (negsuc a) (negsuc b) n = ne-eqb a b (λ e. n (ap negsuc e))
+
+-- the machine's test of two signed numbers, on their bits, is the test of the numbers
+pub eqZ-bits : (w : Width) (a b : ℤ) → SFits w a → SFits w b → eqb (ofZ w a) (ofZ w b) ≡ eqZ a b
+eqZ-bits w a b fa fb =
+    split (eqb (ofZ w a) (ofZ w b))
+    (λ e. e ∙ sym (eqZ-same a b (sym (toZ-ofZ w a fa) ∙ ap (toZ w) (eqb-true _ _ e) ∙ toZ-ofZ w b fb)))
+    (λ e. e ∙ sym (eqZ-diff a b (λ p. eqb-false _ _ e (ap (ofZ w) p))))

@@ -1,0 +1,64 @@
+-- The three parts one after the other, up to the first event that is wrong.
+use denote.Ref.{now}
+use native.Mathlib.Omega.{arith}
+use mathlib.Core.Path.{_≡_, _∙_, sym, refl}
+use Rattle.arrays.proofs.Pad.{is-good, is-view}
+use Rattle.watch.proofs.Bytes.{tail-events}
+use Rattle.watch.proofs.Parts.{tells-first, tells-then}
+use borrow.Author.Needs.{needs}
+use Rattle.watch.proofs.events.tail.Statement.{statement}
+use Rattle.watch.proofs.events.tail.Tie as tie
+
+run-counted-requires : tie.Need-run-counted-requires
+run-counted-requires c κs = search needs
+
+returns : tie.Need-returns
+returns c =
+    let s = c .before .before .before .before in
+    let n : c .before .before .run-counted .result .part ≡ 0 → ⊥ = omega arith in
+    rw (tail-events (s .args .at) (now (s .args .reply))) (tells-first _ (c .before .before .run-counted .ensures) n)
+
+thrown-at-requires : tie.Need-thrown-at-requires
+thrown-at-requires c κs = search needs
+
+run-counted-requires-2 : tie.Need-run-counted-requires-2
+run-counted-requires-2 c κs =
+    let z : c .before .before .before .before .run-counted .result .part ≡ 0 = omega arith in
+    (is-good (c .before .before .before .before .run-counted .ensures .lines (sym (c .before .before .before .before .run-counted .ensures .part) ∙ z)), omega (arith, c .before .thrown-at .ensures .1, c .before .before .before .before .before .before .pre .1))
+
+returns-2 : tie.Need-returns-2
+returns-2 c =
+    let s = c .before .before .before .before .before .before .before .before .before in
+    let r = now (s .args .reply) in
+    let z : c .before .before .before .before .before .before .before .run-counted .result .part ≡ 0 = omega arith in
+    let n : c .before .before .run-counted2 .result .part ≡ 0 → ⊥ = omega arith in
+    rw (tail-events (s .args .at) r, ← c .before .before .before .before .thrown-at .ensures .0) (tells-then _ (c .before .before .before .before .before .before .before .run-counted .ensures) z (tells-first _ (c .before .before .run-counted2 .ensures) n))
+
+behind-requires : tie.Need-behind-requires
+behind-requires c κs = search needs
+
+run-counted-requires-3 : tie.Need-run-counted-requires-3
+run-counted-requires-3 c κs =
+    let z : c .before .before .before .before .run-counted2 .result .part ≡ 0 = omega arith in
+    (is-good (c .before .before .before .before .run-counted2 .ensures .lines (sym (c .before .before .before .before .run-counted2 .ensures .part) ∙ z)), omega (arith, c .before .behind .ensures .1, c .before .before .before .before .before .before .thrown-at .ensures .1, c .before .before .before .before .before .before .before .before .before .before .before .pre .1))
+
+returns-3 : tie.Need-returns-3
+returns-3 c =
+    let s = c .before .before .before .before .before .before .before .before .before .before .before .before in
+    let r = now (s .args .reply) in
+    let y : c .before .before .before .before .before .before .before .before .before .before .run-counted .result .part ≡ 0 = omega (arith, c .before .before .before .before .before .before .before .before .if1 .left) in
+    let z : c .before .before .before .before .before .run-counted2 .result .part ≡ 0 = omega (arith, c .before .before .before .if2 .left) in
+    rw (tail-events (s .args .at) r, ← c .before .before .before .before .before .before .before .thrown-at .ensures .0, ← c .before .before .behind .ensures .0) (tells-then _ (c .before .before .before .before .before .before .before .before .before .before .run-counted .ensures) y (tells-then _ (c .before .before .before .before .before .run-counted2 .ensures) z (c .run-counted3 .ensures)))
+
+pub tail-spec : {M : Type 1} → statement M
+tail-spec =
+    tie.close
+    (tie.spec
+    run-counted-requires
+    returns
+    thrown-at-requires
+    run-counted-requires-2
+    returns-2
+    behind-requires
+    run-counted-requires-3
+    returns-3)

@@ -1,0 +1,38 @@
+-- All three counts are 0.
+use denote.Ref.{now}
+use mathlib.Core.Path.{_≡_, _∙_, sym, refl}
+use Rattle.watch.proofs.Bytes.{quiet-tail}
+use borrow.Author.Needs.{needs}
+use Rattle.watch.proofs.judging.is_quiet.Statement.{statement}
+use Rattle.watch.proofs.judging.is_quiet.Tie as tie
+
+thrown-at-requires : tie.Need-thrown-at-requires
+thrown-at-requires c κs = search needs
+
+behind-requires : tie.Need-behind-requires
+behind-requires c κs = search needs
+
+byte-requires : tie.Need-byte-requires
+byte-requires c κs = search needs
+
+byte-requires-2 : tie.Need-byte-requires-2
+byte-requires-2 c κs = search needs
+
+byte-requires-3 : tie.Need-byte-requires-3
+byte-requires-3 c κs = search needs
+
+returns : tie.Need-returns
+returns c =
+    let s = c .before .before .before .before .before .before in
+    rw (c .before .before .byte .ensures, c .before .byte2 .ensures, c .byte3 .ensures, c .before .before .before .behind .ensures .0, c .before .before .before .before .thrown-at .ensures .0) (sym (quiet-tail (s .args .at) (now (s .args .reply))))
+
+pub is-quiet-spec : {M : Type 1} → statement M
+is-quiet-spec =
+    tie.close
+    (tie.spec
+    thrown-at-requires
+    behind-requires
+    byte-requires
+    byte-requires-2
+    byte-requires-3
+    returns)

@@ -1,0 +1,51 @@
+-- The events of a tail where they lie in the bytes.
+use Prim.Native.Nat.{ℕ, zero, suc, _+_}
+use mathlib.Core.Path.{_≡_}
+use mathlib.Core.List.{List, [], _∷_, map}
+use lib.ListN.{drop}
+use Rattle.paper.specs.Numbers.{u8, u32, i32, aSerial, aSurface}
+use Rattle.paper.specs.Ledger.{Event, Hand, Throw, Free, readShown, readWords, uponAll}
+use Rattle.paper.specs.Watch.{tailPart}
+use Rattle.paper.specs.declared.Shown.{Shown}
+use Rattle.paper.specs.declared.Line.{Line}
+use Rattle.watch.specs.Book.{Holds}
+use Rattle.watch.specs.declared.events.Event.{Event as Said}
+use Rattle.watch.specs.declared.events.Event.the-variants as said
+use Rattle.watch.specs.declared.events.Part.{Part}
+use Rattle.watch.specs.declared.events.Part.the-variants.{Handed, Thrown, Released}
+use Rattle.watch.specs.declared.events.Told.{Told}
+
+-- the paper's event
+abbrev pub eventIn : Said → Event
+eventIn (said.Hand x) = Hand x
+eventIn (said.Throw n) = Throw n
+eventIn (said.Free x) = Free x
+
+-- "serial u32, surface u32, POC i32"
+abbrev pub shownAt : List ℕ → ℕ → Shown
+shownAt r at = record { serial = aSerial (u32 r at); surface = aSurface (u32 r (at + 4)); poc = i32 r (at + 8) }
+
+unfoldable pub eventAt : Part → List ℕ → ℕ → Event
+eventAt Handed r at = Hand (shownAt r at)
+eventAt Thrown r at = Throw (aSerial (u32 r at))
+eventAt Released r at = Free (aSurface (u32 r at))
+
+unfoldable pub sizeOf : Part → ℕ
+sizeOf Handed = 12
+sizeOf Thrown = 4
+sizeOf Released = 4
+
+-- n events of one part
+unfoldable pub eventsOf : Part → ℕ → List ℕ → List Event
+eventsOf Handed n bs = map Hand (readShown n bs)
+eventsOf Thrown n bs = map Throw (map aSerial (readWords n bs))
+eventsOf Released n bs = map Free (map aSurface (readWords n bs))
+
+-- a count and as many events
+unfoldable pub counted : Part → List ℕ → List Event
+counted p bs = eventsOf p (u8 bs 0) (drop 1 bs)
+
+-- the part that the events break, or 0 and the lines after them
+pub record Tells (es : List Event) (H : List Line) (t : Told) : Type 0 where
+  pub part : t .part ≡ tailPart es H
+  pub lines : tailPart es H ≡ 0 → Holds (t .lines) (uponAll es H)

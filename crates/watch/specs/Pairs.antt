@@ -1,0 +1,46 @@
+-- Exchanges in two runs of bytes: each whole record with the next whole reply.
+use Prim.Native.Nat.{ℕ, _+_, _≤_}
+use mathlib.Core.Path.{_≡_}
+use mathlib.Core.List.{List, [], _∷_, _++_}
+use mathlib.Core.Bool.{true, _||_}
+use lib.ListN.{length, take, drop}
+use lib.Dec.{eqb}
+use Rattle.paper.specs.Words.{allB}
+use Rattle.framing.specs.Cut.{sizeOf, isWhole, joined}
+use Rattle.paper.specs.Ledger.{Ledger, readReply}
+use Rattle.paper.specs.Watch.{watched}
+use Rattle.watch.specs.Book.{bookIn, tallied}
+use Rattle.watch.specs.declared.Tally.{Tally}
+use Rattle.watch.specs.declared.Book.{Book}
+use Rattle.watch.specs.declared.pairing.Paired.{Paired}
+
+-- the tally with what all these replies tell
+unfoldable pub tallyAll : Tally → List (List ℕ) → Tally
+tallyAll t [] = t
+tallyAll t (a ∷ answers) = tallyAll (tallied t (readReply a)) answers
+
+-- the book is this ledger
+pub record IsLedger (b : Book) (L : Ledger) : Type 0 where
+  pub held : bookIn b .held ≡ L .held
+  pub current : bookIn b .current ≡ L .current
+  pub begun : bookIn b .begun ≡ L .begun
+
+-- The bytes taken are whole records and as many whole replies. `watched` finds that part in them, that many exchanges in front of it, and that ledger
+pub record Watches (b : Book) (records replies : List ℕ) (p : Paired) : Type 0 where
+  pub said : List (List ℕ)
+  pub answers : List (List ℕ)
+  pub whole-said : allB isWhole said ≡ true
+  pub whole-answers : allB isWhole answers ≡ true
+  pub cut-said : take (p .taken) records ≡ joined said
+  pub cut-answers : take (p .answered) replies ≡ joined answers
+  pub part : p .part ≡ watched 0 (bookIn b) said answers .part
+  pub pairs : p .pairs ≡ watched 0 (bookIn b) said answers .at
+  pub ledger : IsLedger (p .book) (watched 0 (bookIn b) said answers .ledger)
+  pub tally : p .part ≡ 0 → p .book .tally ≡ tallyAll (b .tally) answers
+
+-- and where no part is broken, no whole record or no whole reply is left
+pub record WatchesAll (b : Book) (records replies : List ℕ) (p : Paired) : Type 0 where
+  pub watches : Watches b records replies p
+  pub taken : p .taken ≤ length records
+  pub answered : p .answered ≤ length replies
+  pub rest : p .part ≡ 0 → (eqb (sizeOf (drop (p .taken) records)) 0 || eqb (sizeOf (drop (p .answered) replies)) 0) ≡ true

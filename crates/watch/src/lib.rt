@@ -1,0 +1,118 @@
+// A tenant's check of demand 3, from records and replies alone: the ledger of document 01's demand in arrays of fixed size. It judges the replies of any
+// session, so nothing is asked of them, nor of the book: a length over 16 counts as 16.
+mod counting;
+mod events;
+mod judging;
+mod pairing;
+mod reading;
+mod tests;
+mod walking;
+
+pub use counting::current;
+pub use counting::surfaces;
+pub use counting::waiting;
+pub use pairing::Paired;
+pub use pairing::hear_all;
+use paper::Line;
+use paper::Serial;
+use paper::Surface;
+ghost use mathlib.Core.List.{[]};
+ghost use Rattle.paper.specs.Ledger.{blank};
+ghost use Rattle.watch.specs.Book.{Holds, HoldsBook, noTally};
+ghost use Rattle.watch.specs.Hears.{Hears};
+
+// Lines of the ledger in the first `len` places: those held, and room for the current one.
+pub struct Lines {
+    pub items: [Line; Lines::PLACES],
+    pub len: usize,
+}
+
+// The line of the current picture, if there is one.
+pub enum Slot {
+    Idle,
+    Is(Line),
+}
+
+// How many pictures were handed out and thrown away, and how many accepted lists were checked; each stops at the greatest value.
+pub struct Tally {
+    pub handed: u64,
+    pub thrown: u64,
+    pub lists: u64,
+}
+
+// What somebody knows who has seen the records and the replies: the pictures stored, the current one, how many were begun, and the tally.
+pub struct Book {
+    pub held: Lines,
+    pub current: Slot,
+    pub begun: u64,
+    pub tally: Tally,
+}
+
+// The part of demand 3 that an exchange breaks, or 0, and the book after it.
+pub struct Heard {
+    pub part: u8,
+    pub book: Book,
+}
+
+impl Lines {
+    // A store holds at most 16 pictures.
+    pub const HELD: usize = 16;
+
+    // The pictures stored and the current one.
+    pub const PLACES: usize = 17;
+
+    // No line.
+    pub fn none() -> Self
+        ensures { λ r. ⌜ Holds r [] ⌝ }
+    {
+        let e = Line {
+            serial: Serial(0),
+            surface: Surface(0),
+            poc: 0,
+            wants: false,
+        };
+        let items = [e; Lines::PLACES];
+        Lines { items, len: 0 }
+    }
+}
+
+impl Book {
+    // Before the first exchange.
+    pub fn new() -> Self
+        ensures { λ r. ⌜ HoldsBook r blank noTally ⌝ }
+    {
+        let held = Lines::none();
+        Book {
+            held,
+            current: Slot::Idle,
+            begun: 0,
+            tally: Tally {
+                handed: 0,
+                thrown: 0,
+                lists: 0,
+            },
+        }
+    }
+}
+
+// One exchange: the first part of demand 3 that it breaks, or 0 and the book after it. A broken exchange leaves the book as it was.
+pub fn hear(b: Book, msg: &[u8], reply: &[u8]) -> Heard
+    ensures { λ r. ⌜ Hears b (now (msg .entry)) (now (reply .entry)) r ⌝ }
+{
+    if !framing::is_whole(reply) {
+        return Heard { part: 1, book: b };
+    }
+    if !reading::answers(msg, reply) {
+        return Heard { part: 2, book: b };
+    }
+    let j = judging::judge(walking::tidy(b), msg, reply);
+    if j.part != 0 {
+        return Heard {
+            part: j.part,
+            book: b,
+        };
+    }
+    let k = j.book;
+    let book = reading::counted(k, reply);
+    Heard { part: 0, book }
+}
