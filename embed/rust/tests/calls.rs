@@ -1,0 +1,103 @@
+//! The recordings of vectors/ and examples/ and the promises of the header, through the safe crate. TRUSSHEMP_CALLS is the folder that calls.py wrote.
+use std::fs;
+use trusshemp::{session_size, Answer, Session, REPLY, WORDS};
+
+const FILL: u8 = 0xA5;
+
+/// The bytes behind a count, and what follows them.
+fn counted(data: &[u8]) -> (&[u8], &[u8]) {
+    let (count, rest) = data.split_at(4);
+    rest.split_at(u32::from_le_bytes(count.try_into().unwrap()) as usize)
+}
+
+/// Each record of a file with its expected reply.
+fn calls(mut data: &[u8]) -> Vec<(&[u8], &[u8])> {
+    let mut found = Vec::new();
+    while !data.is_empty() {
+        let (said, rest) = counted(data);
+        let (answered, rest) = counted(rest);
+        found.push((said, answered));
+        data = rest;
+    }
+    found
+}
+
+#[test]
+fn the_size_is_the_archives() {
+    assert_eq!(session_size(), std::mem::size_of::<Session>());
+    assert_eq!(session_size(), 4 * WORDS);
+}
+
+/// "Whole exchange from fresh" of docs/01-scope.md.
+#[test]
+fn the_whole_exchange() {
+    let mut session = Session::new();
+    let mut reply = [FILL; REPLY];
+    let configure = [0x06, 0, 1, 0, 4, 4, 4, 1, 0, 0];
+    assert_eq!(session.step(&configure, &mut reply), Answer { number: 0, len: 9 });
+    assert_eq!(reply[..10], [5, 0, 1, 1, 0, 0, 0, 0, 0, FILL]);
+    let begin = [0x0C, 0, 2, 0, 0x13, 0, 1, 0, 0, 7, 0, 0, 0, 0, 0, 0];
+    assert_eq!(session.step(&begin, &mut reply), Answer { number: 0, len: 23 });
+    assert_eq!(reply[..24], [0x13, 0, 2, 1, 0, 0, 0, 0, 0, 0, 7, 0, 0, 0, 0, 0, 0, 0, 0, 0, 0, 0, 0, FILL]);
+}
+
+#[test]
+fn every_recording() {
+    let folder = std::env::var("TRUSSHEMP_CALLS").expect("TRUSSHEMP_CALLS is set");
+    let mut files = 0;
+    for entry in fs::read_dir(folder).unwrap() {
+        let path = entry.unwrap().path();
+        let data = fs::read(&path).unwrap();
+        let mut session = Session::new();
+        for (place, (said, answered)) in calls(&data).into_iter().enumerate() {
+            let before = session.clone();
+            let mut reply = [FILL; REPLY];
+            let answer = session.step(said, &mut reply);
+            assert_eq!(&reply[..answer.len], answered, "{}, record {}", path.display(), place + 1);
+            assert_eq!(answer.number, u16::from_le_bytes([answered[4], answered[5]]));
+            assert!(reply[answer.len..].iter().all(|&b| b == FILL));
+            assert!(answer.number == 0 || session == before);
+            // kept as words and read again, it is the same session
+            session = Session::from_words(*session.words());
+        }
+        files += 1;
+    }
+    assert!(files > 10, "{files} files of calls");
+}
+
+#[test]
+fn a_small_buffer() {
+    let mut session = Session::new();
+    let before = session.clone();
+    let mut reply = [FILL; REPLY - 1];
+    assert_eq!(session.step(&[0, 0, 5, 0], &mut reply), Answer { number: 14, len: 0 });
+    assert!(reply.iter().all(|&b| b == FILL) && session == before);
+    assert_eq!(session.step(&[], &mut []), Answer { number: 14, len: 0 });
+}
+
+/// Words that no call ever left get answers, and the next session is laid out whole.
+#[test]
+fn any_words_are_a_session() {
+    let mut seed = 1u64;
+    let mut next = || {
+        seed = seed.wrapping_mul(6364136223846793005).wrapping_add(1442695040888963407);
+        (seed >> 32) as u32
+    };
+    for _ in 0..200 {
+        let mut words = [0; WORDS];
+        words.iter_mut().for_each(|w| *w = next() >> (next() % 32));
+        for kind in 0..=9u8 {
+            let body = [4, 0, 0, 0, 0, 0, 0, 0, 0, 0, 0, 0];
+            let size = [0, 6, 12, 4, 0, 0, 0, 0, 0, 0][kind as usize];
+            let mut record = vec![size as u8, 0, kind, 0];
+            record.extend_from_slice(&body[..size]);
+            let mut session = Session::from_words(words);
+            let mut reply = [FILL; REPLY];
+            let answer = session.step(&record, &mut reply);
+            assert!(answer.number < 14 && (6..=REPLY).contains(&answer.len));
+            assert_eq!(answer.number, u16::from_le_bytes([reply[4], reply[5]]));
+            assert!(answer.number == 0 || session.words() == &words);
+            assert!(reply[answer.len..].iter().all(|&b| b == FILL));
+        }
+    }
+}
