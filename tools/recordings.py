@@ -49,6 +49,11 @@ def read(folder):
     return found
 
 
+def in_stream(recording):
+    """Whether each record is head plus body: others can be lent to a call, and not stand in a stream."""
+    return all(list(records.cut(said)) == [said] and len(said) >= 4 for said in recording.said)
+
+
 def shown(data, of_bytes, to_text):
     return to_text(of_bytes(data) or {"kind": "raw", "bytes": data})
 

@@ -40,13 +40,8 @@ def compare(command, recording):
         raise Failed(line)
 
 
-def in_stream(recording):
-    """Whether each record is head plus body: others can be lent to a call, and not stand in a stream."""
-    return all(list(records.cut(said)) == [said] and len(said) >= 4 for said in recording.said)
-
-
 def streams():
-    return [r for r in recordings.read(ROOT / "examples") + recordings.read(ROOT / "vectors") if in_stream(r)]
+    return [r for r in recordings.read(ROOT / "examples") + recordings.read(ROOT / "vectors") if recordings.in_stream(r)]
 
 
 def stored(command):

@@ -1,0 +1,3 @@
+pub mod dpb;
+pub mod parser;
+pub mod picture;
