@@ -1,3 +1,4 @@
 pub mod Fitting
 pub mod Moving
 pub mod Ends
+pub mod Keeping

@@ -2,5 +2,6 @@ pub mod Spelling
 pub mod Places
 pub mod Wording
 pub mod Lining
+pub mod Turning
 pub mod Examples
 pub mod Back

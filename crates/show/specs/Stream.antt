@@ -30,3 +30,15 @@ pub record Lines (n : ℕ) (input : List ℕ) (next taken made : ℕ) (output : 
   pub cut : take taken input ≡ joined read
   pub lines : take made output ≡ linesOf n read
   pub number : next ≡ numberAfter n read
+
+-- one turn: of the `held` bytes that waited some were whole replies, and the first `made` bytes of the output are their lines; the others still wait, in
+-- front of what was read
+pub record Turned (n held : ℕ) (before : List ℕ) (next holds : ℕ) (after output : List ℕ) : Type 0 where
+  pub read : List (List ℕ)
+  pub made : ℕ
+  pub left : ℕ
+  pub whole : allB isWhole read ≡ true
+  pub kept : take held before ≡ joined read ++ take left after
+  pub waits : left ≤ holds
+  pub lines : take made output ≡ linesOf n read
+  pub number : next ≡ numberAfter n read

@@ -6,11 +6,11 @@ mod text;
 
 ghost use mathlib.Core.Path.{_≡_};
 ghost use Prim.Native.Nat.{_+_, _-_, _≤_, _<_};
-ghost use lib.ListN.{length, drop};
+ghost use lib.ListN.{length, take, drop};
 ghost use Rattle.wire.specs.Bytes.{over};
 ghost use Rattle.show.specs.Lines.{lineOf, restOf, following};
 ghost use Rattle.framing.specs.Cut.{sizeOf};
-ghost use Rattle.show.specs.Stream.{Added, Lines};
+ghost use Rattle.show.specs.Stream.{Added, Lines, Turned};
 
 // A reply has at most 65,539 bytes, so there is always room to read on behind one that is not whole yet.
 const INPUT: usize = 131072;
@@ -87,6 +87,7 @@ fn read_on(next: u64, held: usize, input: &mut [u8], output: &mut [u8]) -> After
     requires { ⌜ held < length (now input) ⌝ }
     requires { ⌜ 28457 ≤ length (now output) ⌝ }
     ensures { λ r. ⌜ r .held ≤ length (now (input .exit)) ⌝ }
+    ensures kept { λ r. ⌜ (take held (now (input .exit)) ≡ take held (now (input .entry))) × (held ≤ r .held) × (r .next ≡ next) ⌝ }
 {
     let rest = &mut input[held..];
     let got = libc::read(0, rest);
@@ -111,6 +112,7 @@ fn turn(next: u64, held: usize, input: &mut [u8], output: &mut [u8]) -> After
     requires { ⌜ held ≤ length (now input) ⌝ }
     requires { ⌜ (65539 ≤ length (now input)) × (28457 ≤ length (now output)) ⌝ }
     ensures { λ r. ⌜ r .held ≤ length (now (input .exit)) ⌝ }
+    ensures turned { λ r. ⌜ Turned next held (now (input .entry)) (r .next) (r .held) (now (input .exit)) (now (output .exit)) ⌝ }
 {
     let l = lines(next, &input[..held], output);
     let taken = l.taken;

@@ -1,7 +1,7 @@
 -- A read puts bytes behind those that wait.
 use native.Mathlib.Omega.{arith}
 use borrow.Author.Needs.{needs}
-use Rattle.replay.proofs.Turning.{front}
+use Rattle.framing.proofs.Keeping.{front}
 use Rattle.replay.proofs.read_on.Statement.{statement}
 use Rattle.replay.proofs.read_on.Tie as tie
 use Rattle.replay.proofs.read_on.Reads as reads

@@ -7,6 +7,7 @@ use lib.ListN.{length}
 use lib.Seq.{length-take-le}
 use Rattle.show.proofs.Lining.{room-left}
 use Rattle.framing.proofs.Fitting.{within}
+use Rattle.show.proofs.Turning.{waited, lined}
 use Rattle.show.proofs.turn.Statement.{statement}
 use Rattle.show.proofs.turn.Tie as tie
 
@@ -37,7 +38,10 @@ same-length-2 : tie.Need-same-length-2
 same-length-2 c = search needs
 
 returns : tie.Need-returns
-returns c = search needs
+returns c =
+    let st = c .before .before .before .before .before .before .before .before .before .before .before .before .before .before .before in
+    let k = c .before .before .before .before .read-on .ensures .1 in
+    (search needs, waited (st .args .held) (st .args .input .now) (k .0) (k .1) (k .2))
 
 slice-reshare-prefix-write-all : tie.Need-slice-reshare-prefix-write-all
 slice-reshare-prefix-write-all c = search needs
@@ -65,7 +69,11 @@ same-length-4 : tie.Need-same-length-4
 same-length-4 c = search needs
 
 returns-2 : tie.Need-returns-2
-returns-2 c = search needs
+returns-2 c =
+    let st = c .before .before .before .before .before .before .before .before .before .before .before .before .before .before in
+    let a = c .before .before .before .before .before .before .before .before .before .lines in
+    let w = within (st .args .held) (st .args .input .now) (st .pre .0) (a .ensures .0 .0) in
+    (search needs, lined (st .args .held) (st .args .input .now) (st .pre .0) w (a .ensures .1 .0) (c .before .before .shift .ensures))
 
 pub turn-spec : {M : Type 1} → statement M
 turn-spec =
