@@ -1,8 +1,8 @@
 -- A stream of records or of replies, cut by their heads.
-use Prim.Native.Nat.{ℕ, _+_}
+use Prim.Native.Nat.{ℕ, zero, suc, _+_}
 use mathlib.Core.List.{List, [], _∷_, _++_}
 use mathlib.Core.Bool.{Bool, cond}
-use lib.ListN.{length}
+use lib.ListN.{length, take, drop}
 use lib.Dec.{leb, eqb}
 use Rattle.paper.specs.Records.{lengthOf}
 
@@ -18,3 +18,27 @@ joined (r ∷ rs) = r ++ joined rs
 -- "exactly head plus body"
 abbrev pub isWhole : List ℕ → Bool
 isWhole r = eqb (length r) (4 + lengthOf r)
+
+-- the whole records or replies at the front of some bytes, and what is left behind them
+pub record Parts : Type 0 where
+  pub whole : List (List ℕ)
+  pub rest : List ℕ
+
+abbrev pub behind : List (List ℕ) → Parts → Parts
+behind said p = record { whole = said ++ p .whole; rest = p .rest }
+
+-- at most n of them
+unfoldable pub partsIn : ℕ → List ℕ → Parts
+partsIn zero l = record { whole = []; rest = l }
+partsIn (suc n) l = cond (eqb (sizeOf l) 0) (record { whole = []; rest = l }) (behind (take (sizeOf l) l ∷ []) (partsIn n (drop (sizeOf l) l)))
+
+-- a file cut by the heads in it; there are no more of them than bytes
+abbrev pub parts : List ℕ → Parts
+parts file = partsIn (length file) file
+
+abbrev pub cut : List ℕ → List (List ℕ)
+cut file = parts file .whole
+
+-- no whole one begins there
+abbrev pub restOf : List ℕ → List ℕ
+restOf file = parts file .rest

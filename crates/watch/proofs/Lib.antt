@@ -8,3 +8,5 @@ pub mod Hearing
 pub mod Determined
 pub mod Sizes
 pub mod Exchanges
+pub mod Blocks
+pub mod Far

@@ -1,7 +1,7 @@
 -- Exchanges in two runs of bytes: each whole record with the next whole reply.
-use Prim.Native.Nat.{ℕ, _+_, _≤_}
+use Prim.Native.Nat.{ℕ, _≤_}
 use mathlib.Core.Path.{_≡_}
-use mathlib.Core.List.{List, [], _∷_, _++_}
+use mathlib.Core.List.{List, [], _∷_}
 use mathlib.Core.Bool.{true, _||_}
 use lib.ListN.{length, take, drop}
 use lib.Dec.{eqb}
@@ -25,18 +25,24 @@ pub record IsLedger (b : Book) (L : Ledger) : Type 0 where
   pub current : bookIn b .current ≡ L .current
   pub begun : bookIn b .begun ≡ L .begun
 
--- The bytes taken are whole records and as many whole replies. `watched` finds that part in them, that many exchanges in front of it, and that ledger
+-- what `hear_all` gives back
+abbrev pub pairedOf : Book → ℕ → ℕ → ℕ → ℕ → Paired
+pairedOf book taken answered pairs part = record { book = book; taken = taken; answered = answered; pairs = pairs; part = part }
+
+-- The bytes taken are whole records and as many whole replies. `watched` finds that part in them, that many exchanges in front of it, and that ledger; the
+-- tally is that of the replies in front of it
 pub record Watches (b : Book) (records replies : List ℕ) (p : Paired) : Type 0 where
   pub said : List (List ℕ)
   pub answers : List (List ℕ)
   pub whole-said : allB isWhole said ≡ true
   pub whole-answers : allB isWhole answers ≡ true
+  pub even : length said ≡ length answers
   pub cut-said : take (p .taken) records ≡ joined said
   pub cut-answers : take (p .answered) replies ≡ joined answers
   pub part : p .part ≡ watched 0 (bookIn b) said answers .part
   pub pairs : p .pairs ≡ watched 0 (bookIn b) said answers .at
   pub ledger : IsLedger (p .book) (watched 0 (bookIn b) said answers .ledger)
-  pub tally : p .part ≡ 0 → p .book .tally ≡ tallyAll (b .tally) answers
+  pub tally : p .book .tally ≡ tallyAll (b .tally) (take (p .pairs) answers)
 
 -- and where no part is broken, no whole record or no whole reply is left
 pub record WatchesAll (b : Book) (records replies : List ℕ) (p : Paired) : Type 0 where

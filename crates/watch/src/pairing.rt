@@ -1,7 +1,8 @@
 // Exchanges in two runs of bytes: each whole record with the next whole reply.
 use crate::Book;
 use crate::hear;
-ghost use Rattle.watch.specs.Pairs.{WatchesAll};
+ghost use mathlib.Core.Path.{_≡_};
+ghost use Rattle.watch.specs.Pairs.{pairedOf, WatchesAll};
 
 // The book after some exchanges, how many bytes their records and their replies have, how many of them break nothing, and the part that the last one
 // breaks, or 0.
@@ -11,6 +12,19 @@ pub struct Paired {
     pub answered: usize,
     pub pairs: usize,
     pub part: u8,
+}
+
+// What was heard so far.
+fn so_far(book: Book, taken: usize, answered: usize, pairs: usize, part: u8) -> Paired
+    ensures { λ r. ⌜ r ≡ pairedOf book taken answered pairs part ⌝ }
+{
+    Paired {
+        book,
+        taken,
+        answered,
+        pairs,
+        part,
+    }
 }
 
 // Hears each whole record with the next whole reply, up to the first exchange that breaks a part.
@@ -25,13 +39,7 @@ pub fn hear_all(b: Book, records: &[u8], replies: &[u8]) -> Paired
         let n = framing::size(&records[taken..]);
         let m = framing::size(&replies[answered..]);
         if (n == 0) | (m == 0) {
-            return Paired {
-                book,
-                taken,
-                answered,
-                pairs,
-                part: 0,
-            };
+            return so_far(book, taken, answered, pairs, 0);
         }
         let e = taken + n;
         let f = answered + m;
@@ -40,23 +48,11 @@ pub fn hear_all(b: Book, records: &[u8], replies: &[u8]) -> Paired
         answered = f;
         let part = h.part;
         if part != 0 {
-            return Paired {
-                book,
-                taken,
-                answered,
-                pairs,
-                part,
-            };
+            return so_far(book, taken, answered, pairs, part);
         }
         let next = h.book;
         book = next;
         pairs += 1;
     }
-    Paired {
-        book,
-        taken,
-        answered,
-        pairs,
-        part: 0,
-    }
+    so_far(book, taken, answered, pairs, 0)
 }

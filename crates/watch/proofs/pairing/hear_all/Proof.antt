@@ -1,6 +1,6 @@
 -- Each turn hears one exchange more, and nothing before it breaks a part.
 use native.Mathlib.Omega.{arith}
-use mathlib.Core.Path.{_≡_, _∙_, sym, refl}
+use mathlib.Core.Path.{_≡_}
 use borrow.Author.Needs.{needs}
 use Prim.Native.Nat.{_-_, _≤_}
 use lib.ListN.{length}
@@ -44,16 +44,21 @@ part-size-end-2 c = search needs
 size-requires-2 : tie.Need-size-requires-2 Inv-loop μ-loop
 size-requires-2 c κs = search needs
 
+so-far-requires : tie.Need-so-far-requires Inv-loop μ-loop
+so-far-requires c κs = search needs
+
 returns : tie.Need-returns Inv-loop μ-loop
-returns c =
+returns r =
+    let c = r .before in
     let l = c .before .before .before .before .before .before .loop in
     let s = c .before .before .before .before .before .before .before .before .before in
-    record {
+    rw (r .so-far .ensures)
+    (record {
       watches = l .inv .1 .1 .1;
       taken = l .inv .0;
       answered = l .inv .1 .0;
       rest = λ _. rw (size-at (s .args .records .now) (l .taken) (c .before .before .before .size .ensures), size-at (s .args .replies .now) (l .answered) (c .before .size2 .ensures)) at (c .if1 .taken);
-    }
+    })
 
 add-e : tie.Need-add-e Inv-loop μ-loop
 add-e c =
@@ -92,18 +97,23 @@ part-hear-end-2 c =
 hear-requires : tie.Need-hear-requires Inv-loop μ-loop
 hear-requires c κs = search needs
 
+so-far-requires-2 : tie.Need-so-far-requires-2 Inv-loop μ-loop
+so-far-requires-2 c κs = search needs
+
 returns-2 : tie.Need-returns-2 Inv-loop μ-loop
-returns-2 c =
+returns-2 r =
+    let c = r .before in
     let l = c .before .before .before .before .before .before .before .before .before .before .loop in
     let s = c .before .before .before .before .before .before .before .before .before .before .before .before .before in
     let k = neither (c .before .before .before .before .before .before .before .size .result) (c .before .before .before .before .before .size2 .result) (c .before .before .before .before .if1 .left) in
     let z : c .before .hear .result .part ≡ 0 → ⊥ = omega (arith, c .if2 .taken) in
-    record {
+    rw (r .so-far2 .ensures)
+    (record {
       watches = heard-wrong (l .taken) (l .answered) (l .pairs) (c .before .before .before .before .before .before .before .size .result) (c .before .before .before .before .before .size2 .result) (k .0) (size-at (s .args .records .now) (l .taken) (c .before .before .before .before .before .before .before .size .ensures)) (k .1) (size-at (s .args .replies .now) (l .answered) (c .before .before .before .before .before .size2 .ensures)) (l .inv .1 .1 .1) (c .before .hear .result) (c .before .hear .ensures) z;
       taken = size-end (s .args .records .now) (l .taken) (c .before .before .before .before .before .before .before .size .ensures) (l .inv .0);
       answered = size-end (s .args .replies .now) (l .answered) (c .before .before .before .before .before .size2 .ensures) (l .inv .1 .0);
       rest = λ y. absurd (z y);
-    }
+    })
 
 add-pairs : tie.Need-add-pairs Inv-loop μ-loop
 add-pairs c =
@@ -128,12 +138,17 @@ loop-again c =
     let f = size-end (s .args .replies .now) (l .answered) (c .before .before .before .before .before .before .size2 .ensures) (l .inv .1 .0) in
     (e, (f, (omega (arith, l .inv .1 .1 .0, k .0), heard-right (l .taken) (l .answered) (l .pairs) (c .before .before .before .before .before .before .before .before .size .result) (c .before .before .before .before .before .before .size2 .result) (k .0) (size-at (s .args .records .now) (l .taken) (c .before .before .before .before .before .before .before .before .size .ensures)) (k .1) (size-at (s .args .replies .now) (l .answered) (c .before .before .before .before .before .before .size2 .ensures)) (l .inv .1 .1 .1) (c .before .before .hear .result) (c .before .before .hear .ensures) z)))
 
+so-far-requires-3 : tie.Need-so-far-requires-3 Inv-loop μ-loop
+so-far-requires-3 c κs = search needs
+
 returns-3 : tie.Need-returns-3 Inv-loop μ-loop
-returns-3 c =
+returns-3 r =
+    let c = r .before in
     let l = c .before .loop in
     let s = c .before .before .before .before in
     let n : length (s .args .records .now) ≤ l .taken = omega arith in
-    record { watches = l .inv .1 .1 .1; taken = l .inv .0; answered = l .inv .1 .0; rest = λ _. rw (size-none (s .args .records .now) (l .taken) n) }
+    rw (r .so-far3 .ensures)
+    (record { watches = l .inv .1 .1 .1; taken = l .inv .0; answered = l .inv .1 .0; rest = λ _. rw (size-none (s .args .records .now) (l .taken) n) })
 
 pub hear-all-spec : {M : Type 1} → statement M
 hear-all-spec =
@@ -150,6 +165,7 @@ hear-all-spec =
     part-size-start-2
     part-size-end-2
     size-requires-2
+    so-far-requires
     returns
     add-e
     add-f
@@ -160,8 +176,10 @@ hear-all-spec =
     part-hear-start-2
     part-hear-end-2
     hear-requires
+    so-far-requires-2
     returns-2
     add-pairs
     loop-less
     loop-again
+    so-far-requires-3
     returns-3)

@@ -1,0 +1,143 @@
+-- What `hear_all` finds is a function of the bytes: heads leave one way to cut them, and each whole record goes with its whole reply as far as both go.
+use Prim.Native.Nat.{ℕ, _+_, _≤_, min}
+use mathlib.Core.Path.{_≡_, refl, sym, ap, ap₂, _∙_}
+use mathlib.Core.Bool.{true, _||_}
+use mathlib.Core.List.{List, [], _∷_, _++_, append-nil}
+use native.Mathlib.Omega.{arith}
+use lib.ListN.{length, take, drop, length-append, length-take, take-append-drop}
+use lib.Seq.{take-append-add, take-append-le, length-take-le}
+use lib.Dec.{eqb}
+use borrow.Author.Tests.{eqb-true, eqb-false}
+use Rattle.paper.specs.Words.{allB}
+use Rattle.paper.specs.Ledger.{Ledger}
+use Rattle.paper.specs.Watch.{Verdict, watched}
+use Rattle.paper.proofs.Bools.{split}
+use Rattle.framing.specs.Cut.{Parts, sizeOf, joined, isWhole, cut}
+use Rattle.framing.proofs.Cutting.{front-cut, parts-none}
+use Rattle.watch.specs.declared.Book.{Book}
+use Rattle.watch.specs.declared.pairing.Paired.{Paired}
+use Rattle.watch.specs.Book.{bookIn}
+use Rattle.watch.specs.Pairs.{tallyAll, Watches, WatchesAll}
+use Rattle.watch.proofs.Blocks.{watched-broken, watched-within}
+
+pub length-none : {A : Type 0} (l : List A) → length l ≡ 0 → l ≡ []
+length-none [] e = refl
+length-none (x ∷ l) e = absurd (omega arith)
+
+-- of two runs that begin equally long, as much as both have
+both-front : {A B : Type 0} (xs qs : List A) (ys bs : List B) → length xs ≡ length ys → take (length (ys ++ bs)) (xs ++ qs) ≡ xs ++ take (length bs) qs
+both-front xs qs ys bs e =
+    let n : length (ys ++ bs) ≡ length xs + length bs = length-append ys bs ∙ ap (λ (m : ℕ). m + length bs) (sym e) in
+    ap (λ (m : ℕ). take m (xs ++ qs)) n ∙ take-append-add xs qs (length bs)
+
+-- where one of them has no more
+none-left : {A : Type 0} (qs : List A) (n : ℕ) → min (length qs) n ≡ 0 → take n qs ≡ []
+none-left qs n z = let k = length-take n qs in length-none (take n qs) (omega arith)
+
+-- each record with its reply, as far as both go
+abbrev pub asFar : Ledger → List (List ℕ) → List (List ℕ) → Verdict
+asFar L rs answers = watched 0 L (take (length answers) rs) (take (length rs) answers)
+
+module _ (L : Ledger) (said answers : List (List ℕ)) (e : length said ≡ length answers) (qs bs : List (List ℕ)) where
+  far-front : asFar L (said ++ qs) (answers ++ bs) ≡ watched 0 L (said ++ take (length bs) qs) (answers ++ take (length qs) bs)
+  far-front = ap₂ (watched 0 L) (both-front said qs answers bs e) (both-front answers bs said qs (sym e))
+
+  -- what stands behind a broken part changes nothing
+  pub far-broken : (watched 0 L said answers .part ≡ 0 → ⊥) → asFar L (said ++ qs) (answers ++ bs) ≡ watched 0 L said answers
+  far-broken w = far-front ∙ watched-broken 0 L said answers (take (length bs) qs) (take (length qs) bs) e w
+
+  -- and where one of them has no more, these are all
+  pub far-last : min (length qs) (length bs) ≡ 0 → asFar L (said ++ qs) (answers ++ bs) ≡ watched 0 L said answers
+  far-last m =
+      far-front
+      ∙ ap₂ (λ (x y : List (List ℕ)). watched 0 L (said ++ x) (answers ++ y)) (none-left qs (length bs) m) (none-left bs (length qs) (omega arith))
+      ∙ ap₂ (watched 0 L) (append-nil said) (append-nil answers)
+
+-- ---- `hear_all`
+
+no-more : (x y : List ℕ) → (eqb (sizeOf x) 0 || eqb (sizeOf y) 0) ≡ true → min (length (cut x)) (length (cut y)) ≡ 0
+no-more x y h =
+    split (eqb (sizeOf x) 0)
+    (λ e. let k = ap (λ (p : Parts). length (p .whole)) (parts-none (length x) x (eqb-true (sizeOf x) 0 e)) in omega arith)
+    (λ e. let k = ap (λ (p : Parts). length (p .whole)) (parts-none (length y) y (eqb-true (sizeOf y) 0 (rw e at h))) in omega arith)
+
+cut-behind : (file : List ℕ) (n : ℕ) (said : List (List ℕ)) → allB isWhole said ≡ true → take n file ≡ joined said → cut file ≡ said ++ cut (drop n file)
+cut-behind file n said w e =
+    ap cut (sym (take-append-drop n file) ∙ ap (λ (l : List ℕ). l ++ drop n file) e) ∙ ap (λ (p : Parts). p .whole) (front-cut said (drop n file) w)
+
+-- where no more goes with the other file, the bytes taken are those of as many as both have
+taken-is : (n m : ℕ) (file other : List ℕ) (said answers : List (List ℕ)) → n ≤ length file → allB isWhole said ≡ true → allB isWhole answers ≡ true → take n file ≡ joined said
+    → take m other ≡ joined answers → length said ≡ length answers → min (length (cut (drop n file))) (length (cut (drop m other))) ≡ 0 → n ≡ length (joined (take (length (cut other)) (cut file)))
+taken-is n m file other said answers h a b c d e z =
+    let x = cut (drop n file) in
+    let y = cut (drop m other) in
+    let s : take (length (cut other)) (cut file) ≡ said =
+    ap₂ (λ (l k : List (List ℕ)). take (length l) k) (cut-behind other m answers b d) (cut-behind file n said a c)
+    ∙ both-front said x answers y e
+    ∙ ap (λ (l : List (List ℕ)). said ++ l) (none-left x (length y) z)
+    ∙ append-nil said in
+    sym (length-take-le n file h) ∙ ap length (c ∙ ap joined (sym s))
+
+module _ {b : Book} {records replies : List ℕ} {p : Paired} (g : WatchesAll b records replies p) where
+  abbrev heard : Watches b records replies p
+  heard = g .watches
+
+  abbrev found : Verdict
+  found = asFar (bookIn b) (cut records) (cut replies)
+
+  -- THE EXCHANGES ARE THOSE OF THE BYTES, as far as both go
+  pub heard-far : watched 0 (bookIn b) (heard .said) (heard .answers) ≡ found
+  heard-far =
+      let x = drop (p .taken) records in
+      let y = drop (p .answered) replies in
+      let c = ap₂ (asFar (bookIn b)) (cut-behind records (p .taken) (heard .said) (heard .whole-said) (heard .cut-said)) (cut-behind replies (p .answered) (heard .answers) (heard .whole-answers) (heard .cut-answers)) in
+      split (eqb (p .part) 0)
+      (λ e. sym (c ∙ far-last (bookIn b) (heard .said) (heard .answers) (heard .even) (cut x) (cut y) (no-more x y (g .rest (eqb-true (p .part) 0 e)))))
+      (λ e. sym (c ∙ far-broken (bookIn b) (heard .said) (heard .answers) (heard .even) (cut x) (cut y) (λ z. eqb-false (p .part) 0 e (heard .part ∙ z))))
+
+  pub heard-tally : p .book .tally ≡ tallyAll (b .tally) (take (p .pairs) (cut replies))
+  heard-tally =
+      let k = watched-within 0 (bookIn b) (heard .said) (heard .answers) in
+      let y = cut (drop (p .answered) replies) in
+      heard .tally
+      ∙ ap (tallyAll (b .tally))
+      (sym (take-append-le (p .pairs) (heard .answers) y (omega (arith, heard .pairs))) ∙ ap (take (p .pairs)) (sym (cut-behind replies (p .answered) (heard .answers) (heard .whole-answers) (heard .cut-answers))))
+
+  module _ (z : p .part ≡ 0) where
+    none-more : min (length (cut (drop (p .taken) records))) (length (cut (drop (p .answered) replies))) ≡ 0
+    none-more = no-more (drop (p .taken) records) (drop (p .answered) replies) (g .rest z)
+
+    pub heard-taken : p .taken ≡ length (joined (take (length (cut replies)) (cut records)))
+    heard-taken =
+        taken-is (p .taken) (p .answered) records replies (heard .said) (heard .answers) (g .taken) (heard .whole-said) (heard .whole-answers) (heard .cut-said) (heard .cut-answers) (heard .even) none-more
+
+    pub heard-answered : p .answered ≡ length (joined (take (length (cut records)) (cut replies)))
+    heard-answered =
+        let m = none-more in
+        taken-is (p .answered) (p .taken) replies records (heard .answers) (heard .said) (g .answered) (heard .whole-answers) (heard .whole-said) (heard .cut-answers) (heard .cut-said) (sym (heard .even)) (omega arith)
+
+-- any two results that the contract permits have one part, one number of exchanges, one ledger and one tally; where no part is broken they take the same
+pub record SameHearing (p q : Paired) : Type 0 where
+  pub part : p .part ≡ q .part
+  pub pairs : p .pairs ≡ q .pairs
+  pub book : bookIn (p .book) ≡ bookIn (q .book)
+  pub tally : p .book .tally ≡ q .book .tally
+  pub taken : p .part ≡ 0 → (p .taken ≡ q .taken) × (p .answered ≡ q .answered)
+
+pub one-hearing : {b : Book} {records replies : List ℕ} {p q : Paired} → WatchesAll b records replies p → WatchesAll b records replies q → SameHearing p q
+one-hearing {b} {records} {replies} {p} {q} g h =
+    let v = heard-far g ∙ sym (heard-far h) in
+    let n = g .watches .pairs ∙ ap (λ (w : Verdict). w .at) v ∙ sym (h .watches .pairs) in
+    let x = g .watches .ledger in
+    let y = h .watches .ledger in
+    let a = x .held ∙ ap (λ (w : Verdict). w .ledger .held) v ∙ sym (y .held) in
+    let c = x .current ∙ ap (λ (w : Verdict). w .ledger .current) v ∙ sym (y .current) in
+    let d = x .begun ∙ ap (λ (w : Verdict). w .ledger .begun) v ∙ sym (y .begun) in
+    let e = g .watches .part ∙ ap (λ (w : Verdict). w .part) v ∙ sym (h .watches .part) in
+    record {
+      part = e;
+      pairs = n;
+      book = λ i. record { held = a i; current = c i; begun = d i; ok = true };
+      tally = heard-tally g ∙ ap (λ (m : ℕ). tallyAll (b .tally) (take m (cut replies))) n ∙ sym (heard-tally h);
+      taken = λ z. (heard-taken g z ∙ sym (heard-taken h (sym e ∙ z)), heard-answered g z ∙ sym (heard-answered h (sym e ∙ z)));
+    }
