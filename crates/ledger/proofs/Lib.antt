@@ -1,1 +1,6 @@
-pub mod Within
+pub mod Verdicts
+pub mod Files
+pub mod Turning
+pub mod Taking
+pub mod Running
+pub mod Examples

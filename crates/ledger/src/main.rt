@@ -4,9 +4,10 @@ mod saying;
 
 use watch::Book;
 ghost use mathlib.Core.Path.{_≡_};
-ghost use Prim.Native.Nat.{_+_, _-_, _≤_, min};
+ghost use Prim.Native.Nat.{_+_, _≤_, min};
 ghost use lib.ListN.{length};
 ghost use Rattle.ledger.specs.Moves.{moveOf};
+ghost use Rattle.ledger.specs.Turns.{Fed, lessened, stateOf, wants, Went, Turned, Judges};
 
 // A record or a reply has at most 65,539 bytes, so there is always room to read on behind one that is not whole yet.
 const INPUT: usize = 131072;
@@ -72,7 +73,7 @@ fn plus(a: u64, n: usize) -> u64
 // that is not whole, counts as a file that can't be read, so that no verdict rests on it.
 fn read_on(f: Feed, bytes: &mut [u8]) -> Feed
     requires { ⌜ f .held ≤ length (now bytes) ⌝ }
-    ensures { λ r. ⌜ r .held ≤ length (now (bytes .exit)) ⌝ }
+    ensures { λ r. ⌜ Fed f (now (bytes .entry)) r (now (bytes .exit)) ⌝ }
 {
     let held = f.held;
     let fd = f.fd;
@@ -91,7 +92,7 @@ fn read_on(f: Feed, bytes: &mut [u8]) -> Feed
 // The bytes behind the first n wait now.
 fn without(f: Feed, n: usize) -> Feed
     requires { ⌜ n ≤ f .held ⌝ }
-    ensures { λ r. ⌜ r .held ≡ f .held - n ⌝ }
+    ensures { λ r. ⌜ r ≡ lessened f n ⌝ }
 {
     Feed {
         fd: f.fd,
@@ -101,52 +102,45 @@ fn without(f: Feed, n: usize) -> Feed
     }
 }
 
+// The same book and number, with these files and this part.
+fn fed(s: State, records: Feed, replies: Feed, part: u8, more: bool) -> State
+    ensures { λ r. ⌜ r ≡ stateOf s records replies part more ⌝ }
+{
+    let book = s.book;
+    State {
+        book,
+        number: s.number,
+        records,
+        replies,
+        part,
+        more,
+    }
+}
+
 // Reads one of the files on, or ends the run.
 fn go_on(s: State, m: Move, records: &mut [u8], replies: &mut [u8]) -> State
     requires { ⌜ (s .records .held ≤ length (now records)) × (s .replies .held ≤ length (now replies)) ⌝ }
-    ensures { λ r. ⌜ (r .records .held ≤ length (now (records .exit))) × (r .replies .held ≤ length (now (replies .exit))) ⌝ }
+    ensures { λ r. ⌜ Went s m (now (records .entry)) (now (replies .entry)) r (now (records .exit)) (now (replies .exit)) ⌝ }
 {
-    let book = s.book;
     let a = s.records;
     let b = s.replies;
     match m {
         Move::Records => {
             let f = read_on(a, records);
-            State {
-                book,
-                number: s.number,
-                records: f,
-                replies: b,
-                part: 0,
-                more: !f.failed,
-            }
+            fed(s, f, b, 0, !f.failed)
         }
         Move::Replies => {
             let f = read_on(b, replies);
-            State {
-                book,
-                number: s.number,
-                records: a,
-                replies: f,
-                part: 0,
-                more: !f.failed,
-            }
+            fed(s, a, f, 0, !f.failed)
         }
-        Move::Stop(part) => State {
-            book,
-            number: s.number,
-            records: a,
-            replies: b,
-            part,
-            more: false,
-        },
+        Move::Stop(part) => fed(s, a, b, part, false),
     }
 }
 
 // What to do where no exchange is whole.
 fn starve(s: State, records: &mut [u8], replies: &mut [u8]) -> State
     requires { ⌜ (s .records .held ≤ length (now records)) × (s .replies .held ≤ length (now replies)) ⌝ }
-    ensures { λ r. ⌜ (r .records .held ≤ length (now (records .exit))) × (r .replies .held ≤ length (now (replies .exit))) ⌝ }
+    ensures { λ r. ⌜ Went s (wants s (now (records .entry)) (now (replies .entry))) (now (records .entry)) (now (replies .entry)) r (now (records .exit)) (now (replies .exit)) ⌝ }
 {
     let a = s.records;
     let b = s.replies;
@@ -161,7 +155,7 @@ fn starve(s: State, records: &mut [u8], replies: &mut [u8]) -> State
 // Hears the exchanges that are whole, and makes room for more; where none is whole, reads on.
 fn turn(s: State, records: &mut [u8], replies: &mut [u8]) -> State
     requires { ⌜ (s .records .held ≤ length (now records)) × (s .replies .held ≤ length (now replies)) ⌝ }
-    ensures { λ r. ⌜ (r .records .held ≤ length (now (records .exit))) × (r .replies .held ≤ length (now (replies .exit))) ⌝ }
+    ensures { λ r. ⌜ Turned s (now (records .entry)) (now (replies .entry)) r (now (records .exit)) (now (replies .exit)) ⌝ }
 {
     let a = s.records;
     let b = s.replies;
@@ -190,7 +184,9 @@ fn turn(s: State, records: &mut [u8], replies: &mut [u8]) -> State
 }
 
 // Turn after turn from a new book. Nothing says that the files end, so the turns are counted.
-fn run(records_fd: i32, replies_fd: i32, records: &mut [u8], replies: &mut [u8]) -> State {
+fn run(records_fd: i32, replies_fd: i32, records: &mut [u8], replies: &mut [u8]) -> State
+    ensures { λ r. ⌜ Judges «records_fd» «replies_fd» r ⌝ }
+{
     let mut s = State {
         book: Book::new(),
         number: 0,
@@ -252,12 +248,12 @@ fn main() {
     finish(s);
 }
 
-// What is said at the end.
+// What is said at the end. A run that has not ended has no answer.
 fn finish(s: State) {
     let a = s.records;
     let b = s.replies;
     let book = s.book;
-    if a.failed | b.failed {
+    if a.failed | b.failed | s.more {
         os::fail(b"ledger: a file");
         return;
     }

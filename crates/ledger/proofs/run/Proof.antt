@@ -1,13 +1,18 @@
--- The bytes that wait lie within their buffers, and the turns that are left fall.
+-- What was read so far is judged so far, and the turns that are left fall.
 use borrow.Author.Needs.{needs}
+use native.Mathlib.Omega.{arith}
 use Prim.Native.Nat.{_≤_}
-use mathlib.Core.Path.{_≡_}
+use mathlib.Core.Path.{_≡_, refl, _∙_}
+use mathlib.Core.Bool.{true}
 use lib.ListN.{length}
+use mir.Facts.{toZ-ofZ}
+use Rattle.paper.proofs.Ways.{yes-of}
+use Rattle.ledger.proofs.Running.{Reading, nothing-read, reads-on, comes-to-end, not-ended}
 use Rattle.ledger.proofs.run.Statement.{statement}
 use Rattle.ledger.proofs.run.Tie as tie
 
 abbrev Inv-loop : tie.InvT-loop
-Inv-loop records-fd replies-fd records₀ replies₀ s₀ left₀ records replies s left = (s .records .held ≤ length records) × (s .replies .held ≤ length replies) × (length records ≡ length records₀) × (length replies ≡ length replies₀)
+Inv-loop records-fd replies-fd records₀ replies₀ s₀ left₀ records replies s left = (s .records .held ≤ length records) × (s .replies .held ≤ length replies) × (length records ≡ length records₀) × (length replies ≡ length replies₀) × (s .more ≡ true) × (s .records .fd ≡ s₀ .records .fd) × (s .replies .fd ≡ s₀ .replies .fd) × Reading s records replies
 
 abbrev μ-loop : tie.MeasureT-loop
 μ-loop records-fd replies-fd records₀ replies₀ s₀ left₀ records replies s left = left
@@ -16,7 +21,7 @@ new-requires : tie.Need-new-requires Inv-loop μ-loop
 new-requires c κs = search needs
 
 loop-holds : tie.Need-loop-holds Inv-loop μ-loop
-loop-holds c = search needs
+loop-holds c = (omega arith, omega arith, refl, refl, refl, refl, refl, nothing-read _ _ _ (c .new .ensures) refl refl refl)
 
 turn-requires : tie.Need-turn-requires Inv-loop μ-loop
 turn-requires c κs = search needs
@@ -28,7 +33,10 @@ same-length-2 : tie.Need-same-length-2 Inv-loop μ-loop
 same-length-2 c = search needs
 
 returns : tie.Need-returns Inv-loop μ-loop
-returns c = search needs
+returns c =
+    let v = c .before .before .before .before .before .before .before .before .before .before .loop .inv in
+    let f = c .before .before .before .before .before .before .before .before .before .before .before .before .before .before .fits in
+    comes-to-end (v .7) (c .before .before .before .before .before .before .turn .ensures) (v .5 ∙ toZ-ofZ (f .records-fd)) (v .6 ∙ toZ-ofZ (f .replies-fd))
 
 sub-left : tie.Need-sub-left Inv-loop μ-loop
 sub-left c = search needs
@@ -37,7 +45,11 @@ loop-less : tie.Need-loop-less Inv-loop μ-loop
 loop-less c = search needs
 
 loop-again : tie.Need-loop-again Inv-loop μ-loop
-loop-again c = search needs
+loop-again c =
+    let l = c .before .before .before .before .before .before .before .before .before .before .loop in
+    let t = c .before .before .before .before .before .before .turn in
+    let m = yes-of (t .result .more) (c .if1 .left) in
+    (search needs, search needs, search needs, search needs, m, t .ensures .records-on .fd ∙ l .inv .5, t .ensures .replies-on .fd ∙ l .inv .6, reads-on (l .inv .7) (t .ensures) m)
 
 same-length-3 : tie.Need-same-length-3 Inv-loop μ-loop
 same-length-3 c = search needs
@@ -46,7 +58,10 @@ same-length-4 : tie.Need-same-length-4 Inv-loop μ-loop
 same-length-4 c = search needs
 
 returns-2 : tie.Need-returns-2 Inv-loop μ-loop
-returns-2 c = search needs
+returns-2 c =
+    let v = c .before .loop .inv in
+    let f = c .before .before .before .before .before .fits in
+    not-ended (v .4) (v .5 ∙ toZ-ofZ (f .records-fd)) (v .6 ∙ toZ-ofZ (f .replies-fd))
 
 pub run-spec : {M : Type 1} → statement M
 run-spec =

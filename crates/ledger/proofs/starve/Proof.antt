@@ -1,7 +1,11 @@
--- Each file is looked at where its bytes wait.
-use mathlib.Core.Path.{sym}
+-- Each file is looked at where its bytes wait, and the move is the one that their sizes call for.
+use Prim.Native.Nat.{ℕ}
+use mathlib.Core.Path.{_≡_, sym, ap₂, _∙_}
+use lib.Dec.{ltb}
 use lib.Seq.{length-take-le}
 use borrow.Author.Needs.{needs}
+use Rattle.ledger.specs.Moves.{moveOf}
+use Rattle.ledger.specs.Turns.{wants}
 use Rattle.ledger.proofs.starve.Statement.{statement}
 use Rattle.ledger.proofs.starve.Tie as tie
 
@@ -36,7 +40,13 @@ same-length-2 : tie.Need-same-length-2
 same-length-2 c = search needs
 
 returns : tie.Need-returns
-returns c = search needs
+returns c =
+    let s = c .before .before .before .before .before .before .before .before .before .before .before .before .before .before .before .before .args in
+    let a = s .s .records in
+    let b = s .s .replies in
+    let e : c .before .before .before .before .before .before .before .next-move .result ≡ wants (s .s) (s .records .now) (s .replies .now) =
+    c .before .before .before .before .before .before .before .next-move .ensures ∙ ap₂ (λ (n m : ℕ). moveOf (ltb 0 n) (a .ended) (ltb 0 m) (b .ended) (ltb 0 (b .held))) (c .before .before .before .before .before .before .before .before .before .before .size .ensures) (c .before .before .before .before .before .before .before .before .size2 .ensures) in
+    rw e at (c .before .before .before .before .go-on .ensures)
 
 pub starve-spec : {M : Type 1} → statement M
 starve-spec =

@@ -1,8 +1,10 @@
--- What is taken lies within what is held, so the rest can be moved to the start.
+-- What is taken lies within what is held, so the rest can be moved to the start. Where nothing is taken no exchange is whole.
 use native.Mathlib.Omega.{arith}
 use mathlib.Core.Path.{sym}
 use lib.Seq.{length-take-le}
-use Rattle.ledger.proofs.Within.{within}
+use Rattle.framing.proofs.Fitting.{within}
+use Rattle.ledger.proofs.Turning.{starved}
+use Rattle.ledger.proofs.Taking.{none-taken, takes}
 use borrow.Author.Needs.{needs}
 use Rattle.ledger.proofs.turn.Statement.{statement}
 use Rattle.ledger.proofs.turn.Tie as tie
@@ -32,13 +34,20 @@ same-length-2 : tie.Need-same-length-2
 same-length-2 c = search needs
 
 returns : tie.Need-returns
-returns c = search needs
+returns c =
+    let s = c .before .before .before .before .before .before .before .before .before .before .before .before .before .before .before .before in
+    let a = s .args in
+    let z = none-taken (a .s) (a .records .now) (a .replies .now) (s .pre .0) (s .pre .1) (c .before .before .before .before .before .before .before .before .hear-all .ensures) (c .before .before .before .before .before .before .before .if1 .taken) in
+    starved (a .s) (a .records .now) (a .replies .now) (s .pre .0) (s .pre .1) z (c .before .before .before .before .starve .ensures)
 
 shift-requires : tie.Need-shift-requires
 shift-requires c κs = let s = c .before .before .before .before .before .before .before .before .before .before in (within (s .args .s .records .held) (s .args .records .now) (s .pre .0) (c .before .before .hear-all .ensures .taken), s .pre .0)
 
 shift-requires-2 : tie.Need-shift-requires-2
-shift-requires-2 c κs = let s = c .before .before .before .before .before .before .before .before .before .before .before .before .before .before in (within (s .args .s .replies .held) (s .args .replies .now) (s .pre .1) (c .before .before .before .before .before .before .hear-all .ensures .answered), s .pre .1)
+shift-requires-2 c κs =
+    let s = c .before .before .before .before .before .before .before .before .before .before .before .before .before .before in
+    let h = within (s .args .s .replies .held) (s .args .replies .now) (s .pre .1) (c .before .before .before .before .before .before .hear-all .ensures .answered) in
+    (omega arith, s .pre .1)
 
 without-requires : tie.Need-without-requires
 without-requires c κs = let s = c .before .before .before .before .before .before .before .before .before .before .before .before .before .before .before .before .before .before in within (s .args .s .records .held) (s .args .records .now) (s .pre .0) (c .before .before .before .before .before .before .before .before .before .before .hear-all .ensures .taken)
@@ -56,7 +65,11 @@ same-length-4 : tie.Need-same-length-4
 same-length-4 c = search needs
 
 returns-2 : tie.Need-returns-2
-returns-2 c = (omega (arith, c .before .before .before .without .ensures, c .before .before .before .before .before .before .before .before .before .before .before .before .before .before .before .before .before .before .before .before .before .before .pre .0, c .before .before .before .before .before .before .before .before .before .before .before .shift .kept .0), omega (arith, c .before .before .without2 .ensures, c .before .before .before .before .before .before .before .before .before .before .before .before .before .before .before .before .before .before .before .before .before .before .pre .1, c .before .before .before .before .before .before .before .shift2 .kept .0))
+returns-2 c =
+    let s = c .before .before .before .before .before .before .before .before .before .before .before .before .before .before .before .before .before .before .before .before .before .before in
+    let a = s .args in
+    rw (c .before .plus .ensures, c .before .before .before .without .ensures, c .before .before .without2 .ensures)
+    (takes (a .s) (a .records .now) (a .replies .now) (s .pre .0) (s .pre .1) (c .before .before .before .before .before .before .before .before .before .before .before .before .before .before .hear-all .ensures) (c .before .before .before .before .before .before .before .before .before .before .before .shift .ensures) (c .before .before .before .before .before .before .before .shift2 .ensures))
 
 pub turn-spec : {M : Type 1} → statement M
 turn-spec =

@@ -1,0 +1,182 @@
+-- Exchanges that are heard are cut off in front, and what waits behind them is moved to the start: all that was read is still there.
+use Prim.Native.Nat.{ℕ, _+_, _-_, _≤_, min}
+use mathlib.Core.Path.{_≡_, refl, sym, ap, ap₂, subst, _∙_}
+use mathlib.Core.List.{List, [], _∷_, _++_, append-assoc}
+use mathlib.Core.Bool.{true, false, _&&_, _||_}
+use native.Mathlib.Omega.{arith}
+use lib.Dec.{ltb, eqb}
+use lib.ListN.{length, take, drop, length-append, length-drop}
+use lib.Seq.{paste, take-all, take-append-add, length-take-le, length-paste}
+use borrow.Author.Tests.{eqb-true, eqb-false, le-ltb}
+use Rattle.paper.specs.Words.{allB}
+use Rattle.paper.specs.Records.{lengthOf}
+use Rattle.paper.specs.Ledger.{blank}
+use Rattle.paper.specs.Watch.{Verdict, watched}
+use Rattle.paper.proofs.Bools.{split, left}
+use Rattle.framing.specs.Cut.{sizeOf, joined, isWhole, cut, restOf}
+use Rattle.framing.proofs.Fitting.{within}
+use Rattle.framing.proofs.Cutting.{joined-append, all-append}
+use Rattle.framing.proofs.Keeping.{cut-off}
+use Rattle.watch.specs.declared.Tally.{Tally}
+use Rattle.watch.specs.declared.pairing.Paired.{Paired}
+use Rattle.watch.specs.Book.{bookIn, noTally, most}
+use Rattle.watch.specs.Pairs.{tallyAll, Watches, WatchesAll}
+use Rattle.watch.proofs.Far.{length-none}
+use Rattle.watch.proofs.Exchanges.{watched-even, tally-append}
+use Rattle.watch.proofs.Blocks.{next-block, next-place, next-book}
+use Rattle.ledger.specs.declared.Feed.{Feed}
+use Rattle.ledger.specs.declared.State.{State}
+use Rattle.ledger.specs.Verdict.{judged}
+use Rattle.ledger.specs.Turns.{brought, lessened, Judging, Says, Onward, Turned}
+use Rattle.ledger.proofs.Verdicts.{broken-stands, judged-front}
+use Rattle.ledger.proofs.Turning.{none-brought, still-same}
+
+-- whole records or replies of no bytes are none
+none-whole : (rs : List (List ℕ)) → allB isWhole rs ≡ true → [] ≡ joined rs → rs ≡ []
+unfolding joined allB
+none-whole [] w e = refl
+none-whole (r ∷ rs) w e =
+    let a : length r ≡ 4 + lengthOf r = eqb-true (length r) (4 + lengthOf r) (left (isWhole r) (allB isWhole rs) w) in
+    let b : 0 ≡ length r + length (joined rs) = ap length e ∙ length-append r (joined rs) in
+    absurd (omega arith)
+
+not-both-whole : (n m : ℕ) → (eqb n 0 || eqb m 0) ≡ true → (ltb 0 n && ltb 0 m) ≡ false
+not-both-whole n m h =
+    split (eqb n 0)
+    (λ e. let z = eqb-true n 0 e in rw (le-ltb 0 n (omega arith)))
+    (λ e. let z = eqb-true m 0 (rw e at h) in rw (le-ltb 0 m (omega arith), mathlib.Core.Bool.and-false))
+
+-- what was taken of a file joins what is in front of it
+cut-front : {all after : List ℕ} (f : Feed) (n : ℕ) (before : List ℕ) (rs qs : List (List ℕ)) → f .held ≤ length before → n ≤ f .held → take n (take (f .held) before) ≡ joined qs
+    → after ≡ paste before 0 (drop n before) (f .held - n) → all ≡ joined rs ++ take (f .held) before → all ++ brought f (lessened f n) after ≡ joined (rs ++ qs) ++ take (f .held - n) after
+cut-front {all} {after} f n before rs qs h k c e a =
+    let x = take (f .held - n) after in
+    still-same f (lessened f n) after (omega arith)
+    ∙ a
+    ∙ ap (λ (l : List ℕ). joined rs ++ l) (cut-off (joined qs) (f .held) before h k c e)
+    ∙ sym (append-assoc (joined rs) (joined qs) x)
+    ∙ ap (λ (l : List ℕ). l ++ x) (sym (joined-append rs qs))
+
+onward-less : (f : Feed) (n : ℕ) (before after : List ℕ) → f .held ≤ length before → n ≤ f .held → after ≡ paste before 0 (drop n before) (f .held - n) → Onward f (lessened f n) after
+onward-less f n before after h k e =
+    let m : length after ≡ length before = ap length e ∙ length-paste before 0 (drop n before) (f .held - n) (omega arith) (simp length-drop (omega arith)) in
+    record { fd = refl; within = omega arith; ended = λ _. none-brought f (lessened f n) after (omega arith) }
+
+module _ {p : Paired} (s : State) (records replies : List ℕ) (h : s .records .held ≤ length records) (k : s .replies .held ≤ length replies)
+    (g : WatchesAll (s .book) (take (s .records .held) records) (take (s .replies .held) replies) p) where
+  abbrev heard : Watches (s .book) (take (s .records .held) records) (take (s .replies .held) replies) p
+  heard = g .watches
+
+  -- where no byte was taken no exchange is whole
+  pub none-taken : p .taken ≡ 0 → (ltb 0 (sizeOf (take (s .records .held) records)) && ltb 0 (sizeOf (take (s .replies .held) replies))) ≡ false
+  unfolding joined watched
+  none-taken z =
+      let w = take (s .records .held) records in
+      let v = take (s .replies .held) replies in
+      let a : heard .said ≡ [] = none-whole (heard .said) (heard .whole-said) (subst (λ (n : ℕ). take n w ≡ joined (heard .said)) z (heard .cut-said)) in
+      let b : heard .answers ≡ [] = length-none (heard .answers) (sym (heard .even) ∙ ap length a) in
+      let c : p .part ≡ 0 = heard .part ∙ ap₂ (λ (x y : List (List ℕ)). watched 0 (bookIn (s .book)) x y .part) a b in
+      let d : length (take (p .answered) v) ≡ 0 = ap length (heard .cut-answers ∙ ap joined b) in
+      let e = length-take-le (p .answered) v (g .answered) in
+      let f : p .answered ≡ 0 = omega arith in
+      not-both-whole (sizeOf w) (sizeOf v) (subst (λ (n : ℕ). (eqb (sizeOf (drop n w)) 0 || eqb (sizeOf v) 0) ≡ true) z (subst (λ (m : ℕ). (eqb (sizeOf (drop (p .taken) w)) 0 || eqb (sizeOf (drop m v)) 0) ≡ true) f (g .rest c)))
+
+  taken-within : p .taken ≤ s .records .held
+  taken-within = within (s .records .held) records h (g .taken)
+
+  answered-within : p .answered ≤ s .replies .held
+  answered-within = within (s .replies .held) replies k (g .answered)
+
+  abbrev pub nextState : State
+  nextState =
+      record {
+        book = p .book;
+        number = min (s .number + p .pairs) most;
+        records = lessened (s .records) (p .taken);
+        replies = lessened (s .replies) (p .answered);
+        part = p .part;
+        more = eqb (p .part) 0;
+      }
+
+  -- all that was read, behind the exchanges so far and those of this turn
+  module _ {R A : List ℕ} (j : Judging s records replies R A) where
+    abbrev allSaid : List (List ℕ)
+    allSaid = j .said ++ heard .said
+
+    abbrev allAnswers : List (List ℕ)
+    allAnswers = j .answers ++ heard .answers
+
+    abbrev both : Verdict
+    both = watched 0 blank allSaid allAnswers
+
+    part-both : p .part ≡ both .part
+    part-both = next-block blank (j .said) (j .answers) (j .unbroken) (j .ledger) heard
+
+    even-both : length allSaid ≡ length allAnswers
+    even-both =
+        let e = watched-even 0 blank (j .said) (j .answers) (j .unbroken) .0 in
+        omega (arith, length-append (j .said) (heard .said), length-append (j .answers) (heard .answers), heard .even)
+
+    number-both : min (s .number + p .pairs) most ≡ min (both .at) most
+    number-both = let e = next-place blank (j .said) (j .answers) (j .unbroken) (j .ledger) heard in omega (arith, j .number)
+
+    tally-both : p .book .tally ≡ tallyAll noTally (take (both .at) allAnswers)
+    tally-both =
+        let e = next-place blank (j .said) (j .answers) (j .unbroken) (j .ledger) heard in
+        let n = watched-even 0 blank (j .said) (j .answers) (j .unbroken) .1 in
+        let m : length (j .answers) + p .pairs ≡ both .at = omega arith in
+        let t = take (p .pairs) (heard .answers) in
+        heard .tally
+        ∙ ap (λ (x : Tally). tallyAll x t) (j .tally)
+        ∙ sym (tally-append noTally (j .answers) t)
+        ∙ ap (tallyAll noTally) (sym (take-append-add (j .answers) (heard .answers) (p .pairs)) ∙ ap (λ (x : ℕ). take x allAnswers) m)
+
+    module _ {records′ replies′ : List ℕ} (a : records′ ≡ paste records 0 (drop (p .taken) records) (s .records .held - p .taken))
+        (b : replies′ ≡ paste replies 0 (drop (p .answered) replies) (s .replies .held - p .answered)) where
+      said-both : R ++ brought (s .records) (nextState .records) records′ ≡ joined allSaid ++ take (s .records .held - p .taken) records′
+      said-both = cut-front (s .records) (p .taken) records (j .said) (heard .said) h taken-within (heard .cut-said) a (j .cut-said)
+
+      answers-both : A ++ brought (s .replies) (nextState .replies) replies′ ≡ joined allAnswers ++ take (s .replies .held - p .answered) replies′
+      answers-both = cut-front (s .replies) (p .answered) replies (j .answers) (heard .answers) k answered-within (heard .cut-answers) b (j .cut-answers)
+
+      goes : p .part ≡ 0 → Judging nextState records′ replies′ (R ++ brought (s .records) (nextState .records) records′) (A ++ brought (s .replies) (nextState .replies) replies′)
+      goes z =
+          let u : both .part ≡ 0 = sym part-both ∙ z in
+          let n = watched-even 0 blank allSaid allAnswers u .1 in
+          record {
+            said = allSaid;
+            answers = allAnswers;
+            whole-said = all-append isWhole (j .said) (heard .said) (j .whole-said) (heard .whole-said);
+            whole-answers = all-append isWhole (j .answers) (heard .answers) (j .whole-answers) (heard .whole-answers);
+            cut-said = said-both;
+            cut-answers = answers-both;
+            unbroken = u;
+            number = number-both;
+            ledger = next-book blank (j .said) (j .answers) (j .unbroken) (j .ledger) heard;
+            tally = tally-both ∙ ap (tallyAll noTally) (take-all (both .at) allAnswers (omega arith));
+          }
+
+      breaks : (p .part ≡ 0 → ⊥) → (more others : List ℕ)
+          → Says nextState (judged ((R ++ brought (s .records) (nextState .records) records′) ++ more) ((A ++ brought (s .replies) (nextState .replies) replies′) ++ others))
+      breaks w more others =
+          let x = take (s .records .held - p .taken) records′ in
+          let y = take (s .replies .held - p .answered) replies′ in
+          let u : both .part ≡ 0 → ⊥ = λ q. w (part-both ∙ q) in
+          let c = ap (λ (l : List ℕ). l ++ more) said-both ∙ append-assoc (joined allSaid) x more in
+          let d = ap (λ (l : List ℕ). l ++ others) answers-both ∙ append-assoc (joined allAnswers) y others in
+          let v =
+          ap₂ judged c d
+          ∙ judged-front allSaid allAnswers (all-append isWhole (j .said) (heard .said) (j .whole-said) (heard .whole-said)) (all-append isWhole (j .answers) (heard .answers) (j .whole-answers) (heard .whole-answers)) (x ++ more) (y ++ others)
+          ∙ broken-stands allSaid allAnswers even-both (cut (x ++ more)) (cut (y ++ others)) (length (restOf (y ++ others))) u in
+          rw v (record { part = part-both; number = number-both; ledger = next-book blank (j .said) (j .answers) (j .unbroken) (j .ledger) heard; tally = tally-both })
+
+  -- A TURN THAT HEARS EXCHANGES
+  pub takes : {records′ replies′ : List ℕ} → records′ ≡ paste records 0 (drop (p .taken) records) (s .records .held - p .taken)
+      → replies′ ≡ paste replies 0 (drop (p .answered) replies) (s .replies .held - p .answered) → Turned s records replies nextState records′ replies′
+  takes {records′} {replies′} a b =
+      record {
+        records-on = onward-less (s .records) (p .taken) records records′ h taken-within a;
+        replies-on = onward-less (s .replies) (p .answered) replies replies′ k answered-within b;
+        goes-on = λ R A j q. goes j a b (eqb-true (p .part) 0 q);
+        ends = λ R A j q x y more others c d. breaks j a b (eqb-false (p .part) 0 q) more others;
+      }

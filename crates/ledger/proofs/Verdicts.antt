@@ -1,0 +1,87 @@
+-- What `judged` answers where two files begin with whole exchanges: a part that these break is the answer, whatever stands behind them; where they break
+-- none, what is left decides.
+use Prim.Native.Nat.{ℕ, _+_, min}
+use mathlib.Core.Path.{_≡_, sym, ap, ap₂, _∙_}
+use mathlib.Core.List.{List, _++_, append-assoc}
+use mathlib.Core.Bool.{true}
+use native.Mathlib.Omega.{arith}
+use lib.Dec.{ltb}
+use lib.ListN.{length, take, drop, length-append, length-take, take-append-drop}
+use lib.Seq.{take-at, take-append-le}
+use borrow.Author.Tests.{eq-eqb, ne-eqb, lt-ltb, le-ltb, ltb-true, ltb-false}
+use Rattle.paper.specs.Words.{allB, first}
+use Rattle.paper.specs.Ledger.{blank}
+use Rattle.paper.specs.Watch.{Verdict, watched}
+use Rattle.paper.proofs.Bools.{split}
+use Rattle.framing.specs.Cut.{Parts, joined, isWhole, cut, restOf}
+use Rattle.framing.proofs.Cutting.{front-cut, cut-on}
+use Rattle.watch.specs.declared.Tally.{Tally}
+use Rattle.watch.specs.Book.{noTally}
+use Rattle.watch.specs.Pairs.{tallyAll}
+use Rattle.watch.proofs.Exchanges.{watched-even}
+use Rattle.watch.proofs.Blocks.{watched-within}
+use Rattle.watch.proofs.Far.{far-broken, far-last}
+use Rattle.ledger.specs.Verdict.{Answer, exchanged, lastPart, judgedOf, judged}
+
+ltb-shift : (n x y : ℕ) → ltb (n + x) (n + y) ≡ ltb x y
+ltb-shift n x y =
+    split (ltb x y)
+    (λ e. let h = ltb-true x y e in lt-ltb (n + x) (n + y) (omega arith) ∙ sym e)
+    (λ e. let h = ltb-false x y e in le-ltb (n + x) (n + y) (omega arith) ∙ sym e)
+
+-- ---- behind whole exchanges
+
+abbrev answerOf : Verdict → ℕ → Tally → Answer
+answerOf v part tally = record { at = v .at; part = part; ledger = v .ledger; tally = tally }
+
+module _ (said answers : List (List ℕ)) (e : length said ≡ length answers) (qs bs : List (List ℕ)) where
+  abbrev heard : Verdict
+  heard = watched 0 blank said answers
+
+  -- a broken part stands, whatever comes behind it
+  pub broken-stands : (rest : ℕ) → (heard .part ≡ 0 → ⊥) → judgedOf (said ++ qs) (answers ++ bs) rest ≡ answerOf heard (heard .part) (tallyAll noTally (take (heard .at) answers))
+  unfolding judgedOf
+  broken-stands rest w =
+      let v = far-broken blank said answers e qs bs w in
+      let k = watched-within 0 blank said answers in
+      rw (v, ne-eqb (heard .part) 0 w, take-append-le (heard .at) answers bs (omega arith))
+
+  last-shift : (rest : ℕ) → lastPart (length (said ++ qs)) (length (answers ++ bs)) rest ≡ lastPart (length qs) (length bs) rest
+  unfolding first
+  last-shift rest =
+      let n : length (said ++ qs) ≡ length answers + length qs = length-append said qs ∙ ap (λ (m : ℕ). m + length qs) e in
+      rw (n, length-append answers bs, ltb-shift (length answers) (length qs) (length bs), ltb-shift (length answers) (length bs) (length qs))
+
+  -- where nothing is broken and one file has no more, what is left decides
+  pub rest-decides : (rest : ℕ) → heard .part ≡ 0 → min (length qs) (length bs) ≡ 0
+      → judgedOf (said ++ qs) (answers ++ bs) rest ≡ answerOf heard (lastPart (length qs) (length bs) rest) (tallyAll noTally answers)
+  unfolding judgedOf
+  rest-decides rest z m =
+      let v = far-last blank said answers e qs bs m in
+      let k = watched-even 0 blank said answers z .1 in
+      rw (v, eq-eqb (heard .part) 0 z, last-shift rest, take-at answers bs (heard .at) (omega arith))
+
+-- ---- two files that begin with whole exchanges
+
+module _ (said answers : List (List ℕ)) (a : allB isWhole said ≡ true) (b : allB isWhole answers ≡ true) (x y : List ℕ) where
+  pub judged-front : judged (joined said ++ x) (joined answers ++ y) ≡ judgedOf (said ++ cut x) (answers ++ cut y) (length (restOf y))
+  judged-front = ap₂ (λ (p q : Parts). judgedOf (p .whole) (q .whole) (length (q .rest))) (front-cut said x a) (front-cut answers y b)
+
+broken-longer : (rs answers qs bs : List (List ℕ)) (rest last : ℕ) → (exchanged rs answers .part ≡ 0 → ⊥) → judgedOf (rs ++ qs) (answers ++ bs) rest ≡ judgedOf rs answers last
+broken-longer rs answers qs bs rest last w =
+    let s = take (length answers) rs in
+    let t = take (length rs) answers in
+    let x = drop (length answers) rs in
+    let y = drop (length rs) answers in
+    let e : length s ≡ length t = let a = length-take (length answers) rs in let b = length-take (length rs) answers in omega arith in
+    let p : s ++ x ≡ rs = take-append-drop (length answers) rs in
+    let q : t ++ y ≡ answers = take-append-drop (length rs) answers in
+    let f : judgedOf (rs ++ qs) (answers ++ bs) rest ≡ judgedOf (s ++ (x ++ qs)) (t ++ (y ++ bs)) rest =
+    ap₂ (λ (l m : List (List ℕ)). judgedOf l m rest) (ap (λ (l : List (List ℕ)). l ++ qs) (sym p) ∙ append-assoc s x qs) (ap (λ (l : List (List ℕ)). l ++ bs) (sym q) ∙ append-assoc t y bs) in
+    f ∙ broken-stands s t e (x ++ qs) (y ++ bs) rest w ∙ sym (broken-stands s t e x y last w) ∙ ap₂ (λ (l m : List (List ℕ)). judgedOf l m last) p q
+
+-- A PART THAT A WHOLE EXCHANGE BREAKS IS THE ANSWER, HOWEVER MUCH LONGER THE FILES ARE
+pub still-broken : (records replies more others : List ℕ) → (exchanged (cut records) (cut replies) .part ≡ 0 → ⊥) → judged (records ++ more) (replies ++ others) ≡ judged records replies
+still-broken records replies more others w =
+    ap₂ (λ (p q : Parts). judgedOf (p .whole) (q .whole) (length (q .rest))) (cut-on records more) (cut-on replies others)
+    ∙ broken-longer (cut records) (cut replies) (cut (restOf records ++ more)) (cut (restOf replies ++ others)) (length (restOf (restOf replies ++ others))) (length (restOf replies)) w
