@@ -14,9 +14,11 @@
 extern "C" {
 #endif
 
-/* How many words, and how many bytes, a session takes. */
-#define TRUSSHEMP_SESSION_WORDS 137
-#define TRUSSHEMP_SESSION_SIZE (4 * TRUSSHEMP_SESSION_WORDS)
+/* How many words a session takes, beside its sets and its store, of its sets and of its store, and how many bytes. */
+#define TRUSSHEMP_HEAD_WORDS 23
+#define TRUSSHEMP_SETS_WORDS 16
+#define TRUSSHEMP_STORE_WORDS 97
+#define TRUSSHEMP_SESSION_SIZE (4 * (TRUSSHEMP_HEAD_WORDS + TRUSSHEMP_SETS_WORDS + TRUSSHEMP_STORE_WORDS))
 
 /* The least reply buffer, and the largest record (head and body), in bytes. */
 #define TRUSSHEMP_REPLY 512
@@ -24,19 +26,31 @@ extern "C" {
 
 /* One session. It holds no pointer: it may be copied, moved, written to a file and read again. What the words hold is no promise of this header. */
 typedef struct {
-    uint32_t words[TRUSSHEMP_SESSION_WORDS];
+    uint32_t head[TRUSSHEMP_HEAD_WORDS];
+    uint32_t sets[TRUSSHEMP_SETS_WORDS];
+    uint32_t store[TRUSSHEMP_STORE_WORDS];
 } trusshemp_session;
 
 /* TRUSSHEMP_SESSION_SIZE, as the archive has it: a host may compare the two before its first call. */
 size_t trusshemp_session_size(void);
 
+/* What the archive exports: the three parts of a session are lent apart. The two functions behind them are the ones to call. */
+void trusshemp_fresh_in(uint32_t *head, uint32_t *sets, uint32_t *store);
+uint16_t trusshemp_step_in(uint32_t *head, uint32_t *sets, uint32_t *store, const uint8_t *record, size_t record_length, uint8_t *reply, size_t reply_length, size_t *length);
+
 /* Makes the session fresh, whatever it held. */
-void trusshemp_fresh(trusshemp_session *session);
+static inline void trusshemp_fresh(trusshemp_session *session)
+{
+    trusshemp_fresh_in(session->head, session->sets, session->store);
+}
 
 /* One call: the record at `record` gets its reply in the buffer at `reply`. The answer is the refusal number, 0 when accepted, and *length is set to the
  * reply's length in bytes. A refused record leaves every byte of the session as it was; the bytes of the buffer behind the reply are left as they were.
  * A buffer of less than TRUSSHEMP_REPLY bytes gets 14 and length 0, and nothing is written. */
-uint16_t trusshemp_step(trusshemp_session *session, const uint8_t *record, size_t record_length, uint8_t *reply, size_t reply_length, size_t *length);
+static inline uint16_t trusshemp_step(trusshemp_session *session, const uint8_t *record, size_t record_length, uint8_t *reply, size_t reply_length, size_t *length)
+{
+    return trusshemp_step_in(session->head, session->sets, session->store, record, record_length, reply, reply_length, length);
+}
 
 #ifdef __cplusplus
 }

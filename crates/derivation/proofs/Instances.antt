@@ -1,10 +1,9 @@
 -- The paper's two lists are the one list that the code builds, since they differ in candidates and last place alone.
-use mathlib.Core.Path.{_≡_, refl, sym, ap₂, _∙_}
+use mathlib.Core.Path.{_≡_, refl, sym, _∙_}
 use mathlib.Core.List.{List}
 use Prim.Native.Nat.{ℕ, _<_, _≤_}
 use lib.Dec.{leb}
 use Rattle.paper.specs.Words.{anyB}
-use Rattle.derivation.specs.declared.rows.RefList.{RefList}
 use Rattle.derivation.proofs.Runs.{count-is}
 use mathlib.Core.Bool.{Bool, true, false}
 use lib.ListN.{length}
@@ -12,7 +11,7 @@ use Rattle.paper.specs.declared.Serial.{Serial}
 use Rattle.paper.specs.State as State
 use Rattle.paper.specs.Records.{Slice}
 use Rattle.paper.specs.RefLists.{list0, list1, lastIsOwn, candidates0, candidates1}
-use Rattle.derivation.specs.Lists.{listOf, candidatesOf, refsIn, blankRefs, CandidateCount, Ready, HoldsList}
+use Rattle.derivation.specs.Lists.{listOf, candidatesOf, refsIn, serialsIn, CandidateCount, Ready}
 
 module _ (x : State.Refs) (c : Serial) (f : Slice) where
   pub list0-is : f .ask0 .uses ≡ true → list0 x c f ≡ listOf x c (f .own) false (lastIsOwn f (candidates0 x (f .own) c)) (f .ask0 .active) (f .ask0 .modify) (f .ask0 .entries)
@@ -23,9 +22,10 @@ module _ (x : State.Refs) (c : Serial) (f : Slice) where
   unfolding list1 listOf candidatesOf
   list1-is e = rw e
 
-pub none-is : refsIn blankRefs ≡ State.noRefs
+-- with no counts there is no member, whatever lies in the run
+pub none-is : (xs : List ℕ) → refsIn xs (record { before = 0; after = 0; long = 0 }) ≡ State.noRefs
 unfolding refsIn
-none-is = refl
+none-is xs = refl
 
 -- the candidates of each list
 pub candidates-0 : (x : State.Refs) (own : Bool) (c : Serial) → candidatesOf x own false c ≡ candidates0 x own c
@@ -49,9 +49,6 @@ ready second c active modify es k some least most bytes below =
       below = λ t. rw (← e) (below t);
     }
 
--- a list in an array leaves no choice
-pub one-list : (l r : RefList) (xs : List Serial) → HoldsList l xs → HoldsList r xs → l ≡ r
-one-list l r xs h k = ap₂ (λ (a : List Serial) (n : ℕ). the-list a n) (h .places ∙ sym (k .places)) (h .long ∙ sym (k .long))
-  where
-    the-list : List Serial → ℕ → RefList
-    the-list a n = record { items = a; len = n }
+-- a list leaves no choice of the serial numbers in its places
+pub one-list : (xs ys : List ℕ) (n : ℕ) (l : List Serial) → serialsIn xs n ≡ l → serialsIn ys n ≡ l → serialsIn xs n ≡ serialsIn ys n
+one-list xs ys n l h k = h ∙ sym k

@@ -9,52 +9,33 @@ use native.Mathlib.Omega.{arith}
 use native.Mathlib.Numerals.{add-one}
 use lib.Dec.{ltb, leb}
 use borrow.Author.Tests.{ltb-true, ltb-false, leb-false}
-use lib.ListN.{length, getD, take, drop, set, length-append, length-take, length-drop, length-map, List·getD-append, List·getD-eq-default}
-use lib.Seq.{take-add, take-at, drop-at, take-suc, take-length, getD-take, getD-append-add}
+use lib.ListN.{length, getD, take, drop, set, length-append, length-take, length-drop, length-set, length-map, take-append-drop, List·getD-append, List·getD-eq-default, List·getD-map}
+use lib.Seq.{take-add, take-at, drop-at, take-suc, take-length, take-suc-set, take-set-lt, getD-take, getD-append-add}
 use Rattle.paper.specs.declared.Serial.{Serial}
 use Rattle.paper.specs.Words.{table, anyB}
-use Rattle.paper.specs.Numbers.{missing}
+use Rattle.paper.specs.Numbers.{missing, aSerial}
 use Rattle.paper.specs.State as State
 use Rattle.paper.specs.RefLists.{ownOf, candidates0, candidates1, placed}
-use Rattle.arrays.proofs.Pad.{at-cons, at-end, is-push, is-set}
+use Rattle.arrays.proofs.Pad.{at-cons, at-end}
 use Rattle.derivation.specs.declared.rows.Refs.{Refs}
-use Rattle.derivation.specs.declared.rows.RefList.{RefList}
-use Rattle.derivation.specs.Lists.{refsIn, candidatesOf, swappedAt, askOf, CandidateCount, HoldsList, noList, pushed, lastSet}
-
--- what owning an array of structs tells of its list stands at the list mapped to what lies in memory
-pub long-as-mapped : (X Y : Type 0) (f : X → Y) (l : List X) (n : ℕ) → length (map f l) ≡ n → length l ≡ n
-long-as-mapped X Y f l n e = sym (length-map l f) ∙ e
-
--- a run that holds three lists, with their lengths as its counts
-pub refs-are : (r : Refs) (b a l rest : List Serial) → r .items ≡ b ++ (a ++ (l ++ rest)) → r .before ≡ length b → r .after ≡ length a → r .long ≡ length l
-    → refsIn r ≡ record { before = b; after = a; ltCurr = l }
-unfolding refsIn
-refs-are r b a l rest e eb ea el =
-    let n : length (b ++ a) ≡ length b + length a = length-append b a in
-    let s : b ++ (a ++ (l ++ rest)) ≡ (b ++ a) ++ (l ++ rest) = simp append-assoc in
-    rw (e, eb, ea, el, take-at b (a ++ (l ++ rest)) (length b) refl, drop-at b (a ++ (l ++ rest)) (length b) refl, take-at a (l ++ rest) (length a) refl)
-    (rw (s, drop-at (b ++ a) (l ++ rest) (length b + length a) n, take-at l rest (length l) refl))
+use Rattle.derivation.specs.Lists.{refsIn, serialsIn, candidatesOf, swappedAt, placeIn, askOf, CandidateCount}
 
 -- ---- how long each set is
-module _ (r : Refs) (h : length (r .items) ≡ 16) where
-  pub before-length : length (refsIn r .before) ≡ min (r .before) 16
+module _ (xs : List ℕ) (r : Refs) (h : length xs ≡ 16) where
+  before-length : length (refsIn xs r .before) ≡ min (r .before) 16
   unfolding refsIn
-  before-length = simp (length-take, h)
+  before-length = simp (length-map, length-take, h)
 
-  pub after-length : length (refsIn r .after) ≡ min (r .after) (16 - r .before)
+  after-length : length (refsIn xs r .after) ≡ min (r .after) (16 - r .before)
   unfolding refsIn
-  after-length = simp (length-take, length-drop, h)
+  after-length = simp (length-map, length-take, length-drop, h)
 
-  pub long-length : length (refsIn r .ltCurr) ≡ min (r .long) (16 - (r .before + r .after))
+  long-length : length (refsIn xs r .ltCurr) ≡ min (r .long) (16 - (r .before + r .after))
   unfolding refsIn
-  long-length = simp (length-take, length-drop, h)
+  long-length = simp (length-map, length-take, length-drop, h)
 
--- the room that is left behind the first two, and the sum
-pub room-left : (b a m n : ℕ) → m ≡ min b 16 → n ≡ min a (16 - b) → 16 - (m + n) ≡ 16 - (b + a)
-room-left b a m n e f = omega arith
-
-pub sum-most : (b a k m n l : ℕ) → m ≡ min b 16 → n ≡ min a (16 - b) → l ≡ min k (16 - (b + a)) → m + n + l ≤ 16
-sum-most b a k m n l e f g = omega arith
+  pub members-length : length (refsIn xs r .before) + length (refsIn xs r .after) + length (refsIn xs r .ltCurr) ≡ min (r .before + r .after + r .long) 16
+  members-length = rw (before-length, after-length, long-length) (omega arith)
 
 own-length : (own : Bool) (c : Serial) → length (ownOf own c) ≡ cond own 1 0
 own-length true c = refl
@@ -112,29 +93,46 @@ own-get [] true c (suc i) = refl
 own-get (x ∷ l) true c zero = refl
 own-get (x ∷ l) true c (suc i) = own-get l true c i
 
-module _ (r : Refs) (own : Bool) (c : Serial) where
+module _ (xs : List ℕ) (r : Refs) (own : Bool) (c : Serial) where
+  abbrev front : List ℕ
+  front = take (r .before + r .after + r .long) xs
+
   -- the candidates of list 0 are the front of the run
-  pub run-is : candidatesOf (refsIn r) own false c ≡ take (r .before + r .after + r .long) (r .items) ++ ownOf own c
+  run-is : candidatesOf (refsIn xs r) own false c ≡ map aSerial front ++ ownOf own c
   unfolding candidatesOf refsIn
-  run-is = rw (take-add (r .before + r .after) (r .long) (r .items), take-add (r .before) (r .after) (r .items)) (simp append-assoc)
+  run-is =
+      rw (take-add (r .before + r .after) (r .long) xs, take-add (r .before) (r .after) xs)
+      (simp (map-append, append-assoc))
 
-  pub run-get : (i : ℕ) → getD (candidatesOf (refsIn r) own false c) i c ≡ getD (take (r .before + r .after + r .long) (r .items)) i c
-  run-get i = rw run-is (own-get (take (r .before + r .after + r .long) (r .items)) own c i)
+  run-get : (i : ℕ) → getD (candidatesOf (refsIn xs r) own false c) i c ≡ getD (map aSerial front) i c
+  run-get i = rw run-is (own-get (map aSerial front) own c i)
 
-  pub run-inside : (i : ℕ) (e : Serial) → i < length (r .items) → i < r .before + r .after + r .long → getD (r .items) i e ≡ getD (candidatesOf (refsIn r) own false c) i c
-  run-inside i e h k = any-default (r .items) i e c h ∙ sym (run-get i ∙ getD-take (r .before + r .after + r .long) (r .items) i c k)
+  run-inside : (i : ℕ) → i < length xs → i < r .before + r .after + r .long → aSerial (getD xs i 0) ≡ getD (candidatesOf (refsIn xs r) own false c) i c
+  run-inside i h k =
+      let n : i < length (map aSerial front) = simp (length-map, length-take) (omega arith) in
+      sym (run-get i ∙ any-default (map aSerial front) i c (aSerial 0) n ∙ List·getD-map aSerial front i 0 ∙ ap aSerial (getD-take (r .before + r .after + r .long) xs i 0 k))
 
-  pub run-past : (i : ℕ) → min (r .before + r .after + r .long) (length (r .items)) ≤ i → c ≡ getD (candidatesOf (refsIn r) own false c) i c
+  run-past : (i : ℕ) → min (r .before + r .after + r .long) (length xs) ≤ i → c ≡ getD (candidatesOf (refsIn xs r) own false c) i c
   run-past i h =
-      let n = r .before + r .after + r .long in
-      let k : length (take n (r .items)) ≤ i = simp length-take h in
-      sym (run-get i ∙ List·getD-eq-default (take n (r .items)) c k)
+      let k : length (map aSerial front) ≤ i = simp (length-map, length-take) h in
+      sym (run-get i ∙ List·getD-eq-default (map aSerial front) c k)
 
--- the candidate of list 1 at i is that of list 0 where the run has it
-pub other-get : (x : State.Refs) (own : Bool) (c : Serial) (b a i at : ℕ) → b ≡ length (x .before) → a ≡ length (x .after) → at ≡ swappedAt b a i
-    → getD (candidatesOf x own false c) at c ≡ getD (candidatesOf x own true c) i c
+-- the candidate of either list at i is that of list 0 where the run has it
+either-get : (x : State.Refs) (own : Bool) (c : Serial) (second : Bool) (b a i : ℕ) → length (x .before) ≡ b → length (x .after) ≡ a
+    → getD (candidatesOf x own false c) (placeIn b a second i) c ≡ getD (candidatesOf x own second c) i c
 unfolding candidatesOf
-other-get x own c b a i at e f q = rw (q, e, f) (simp append-assoc (swap-get (x .after) (x .before) (x .ltCurr ++ ownOf own c) i c))
+either-get x own c true b a i e f = rw (← e, ← f) (simp append-assoc (swap-get (x .after) (x .before) (x .ltCurr ++ ownOf own c) i c))
+either-get x own c false b a i e f = refl
+
+module _ (xs : List ℕ) (r : Refs) (own second : Bool) (c : Serial) (i at : ℕ) (h : length xs ≡ 16) (e : at ≡ placeIn (min (r .before) 16) (min (r .after) (16 - r .before)) second i) where
+  there : getD (candidatesOf (refsIn xs r) own false c) at c ≡ getD (candidatesOf (refsIn xs r) own second c) i c
+  there = rw e (either-get (refsIn xs r) own c second (min (r .before) 16) (min (r .after) (16 - r .before)) i (before-length xs r h) (after-length xs r h))
+
+  pub stands-inside : at < min (r .before + r .after + r .long) 16 → aSerial (getD xs at 0) ≡ getD (candidatesOf (refsIn xs r) own second c) i c
+  stands-inside lt = run-inside xs r own c at (omega arith) (omega arith) ∙ there
+
+  pub stands-past : min (r .before + r .after + r .long) 16 ≤ at → c ≡ getD (candidatesOf (refsIn xs r) own second c) i c
+  stands-past le = run-past xs r own c at (rw h le) ∙ there
 
 -- ---- places: a table of candidates, at a remainder or at an entry byte
 table-ext : {A : Type 0} (n : ℕ) (f g : ℕ → A) → ((j : ℕ) → f j ≡ g j) → table f n ≡ table g n
@@ -191,19 +189,65 @@ module _ (f : ℕ → Bool) (es : List ℕ) (i : ℕ) where
   unfolding anyB
   any-end le = rw (at-end es i le)
 
--- ---- a list that is filled place by place
+-- ---- the counted candidates are those of either list
 pub count-is : {x : State.Refs} {own : Bool} {n : ℕ} (second : Bool) (c : Serial) → CandidateCount x own n → n ≡ length (candidatesOf x own second c)
 unfolding candidatesOf
 count-is true c h = h .other c
 count-is false c h = h .first c
 
-pub holds-none : (f : ℕ → Serial) → HoldsList noList (table f 0)
-unfolding table
-holds-none f = record { places = refl; long = refl; room = omega arith }
+-- ---- serial numbers that are written one by one
+serials-are : (xs : List ℕ) (n : ℕ) → n ≤ length xs → serialsIn xs n ≡ map aSerial (take n xs)
+serials-are xs n h = table-map aSerial xs n h
 
-pub holds-push : (f : ℕ → Serial) (l r : RefList) (s : Serial) (j : ℕ) → HoldsList l (table f j) → l .len < 16 → s ≡ f j → r ≡ pushed l s → HoldsList r (table f (j + 1))
+pub serials-none : (xs : List ℕ) (f : ℕ → Serial) → serialsIn xs 0 ≡ table f 0
 unfolding table
-holds-push f l r s j h k e q = rw (q, add-one j, ← e) (is-push h s k)
+serials-none xs f = refl
 
-pub holds-last : (l r : RefList) (xs : List Serial) (s : Serial) → HoldsList l xs → 0 < l .len → r ≡ lastSet l s → HoldsList r (set xs (l .len - 1) s)
-holds-last l r xs s h k q = rw q (is-set h (l .len - 1) s (omega arith))
+pub serials-more : (xs : List ℕ) (f : ℕ → Serial) (j : ℕ) (s : Serial) → j < length xs → serialsIn xs j ≡ table f j → s ≡ f j → serialsIn (set xs j (s .0)) (j + 1) ≡ table f (j + 1)
+unfolding table
+serials-more xs f j s h e q =
+    let n : j + 1 ≤ length (set xs j (s .0)) = simp length-set (omega arith) in
+    serials-are (set xs j (s .0)) (j + 1) n
+    ∙ rw (add-one j, take-suc-set xs j (s .0) h, ← q, ← e) (map-append aSerial (take j xs) (s .0 ∷ []) ∙ ap (λ (l : List Serial). l ++ (s ∷ [])) (sym (serials-are xs j (omega arith))))
+
+map-set : {A B : Type 0} (f : A → B) (l : List A) (i : ℕ) (a : A) → map f (set l i a) ≡ set (map f l) i (f a)
+map-set f [] i a = refl
+map-set f (x ∷ l) zero a = refl
+map-set f (x ∷ l) (suc i) a = ap (λ (m : List _). f x ∷ m) (map-set f l i a)
+
+pub serials-last : (xs : List ℕ) (l : List Serial) (n : ℕ) (s : Serial) → length xs ≡ 16 → 1 ≤ n → n ≤ 16 → serialsIn xs n ≡ l → serialsIn (set xs (n - 1) (s .0)) n ≡ set l (n - 1) s
+serials-last xs l n s h least most e =
+    let k : n ≤ length (set xs (n - 1) (s .0)) = simp length-set (omega arith) in
+    serials-are (set xs (n - 1) (s .0)) n k
+    ∙ rw (take-set-lt n xs (n - 1) (s .0) (omega arith), ← e, serials-are xs n (omega arith)) (map-set aSerial (take n xs) (n - 1) (s .0))
+
+-- ---- a run that begins with three lists, with their lengths as its counts
+module _ {A B : Type 0} (f : A → B) where
+  take-map : (n : ℕ) (l : List A) → map f (take n l) ≡ take n (map f l)
+  take-map zero l = refl
+  take-map (suc n) [] = refl
+  take-map (suc n) (x ∷ l) = ap (λ (m : List B). f x ∷ m) (take-map n l)
+
+  drop-map : (n : ℕ) (l : List A) → map f (drop n l) ≡ drop n (map f l)
+  drop-map zero l = refl
+  drop-map (suc n) [] = refl
+  drop-map (suc n) (x ∷ l) = drop-map n l
+
+parts-are : (ys b a l rest : List Serial) (m n k : ℕ) → ys ≡ b ++ (a ++ (l ++ rest)) → m ≡ length b → n ≡ length a → k ≡ length l
+    → _≡_ {A = State.Refs} (record { before = take m ys; after = take n (drop m ys); ltCurr = take k (drop (m + n) ys) }) (record { before = b; after = a; ltCurr = l })
+parts-are ys b a l rest m n k e eb ea el =
+    let s : b ++ (a ++ (l ++ rest)) ≡ (b ++ a) ++ (l ++ rest) = simp append-assoc in
+    rw (e, eb, ea, el, take-at b (a ++ (l ++ rest)) (length b) refl, drop-at b (a ++ (l ++ rest)) (length b) refl, take-at a (l ++ rest) (length a) refl)
+    (rw (s, drop-at (b ++ a) (l ++ rest) (length b + length a) (length-append b a), take-at l rest (length l) refl))
+
+pub refs-are : (xs : List ℕ) (r : Refs) (b a l : List Serial) → r .before + r .after + r .long ≤ length xs → serialsIn xs (r .before + r .after + r .long) ≡ b ++ (a ++ l)
+    → r .before ≡ length b → r .after ≡ length a → r .long ≡ length l → refsIn xs r ≡ record { before = b; after = a; ltCurr = l }
+unfolding refsIn
+refs-are xs r b a l h e eb ea el =
+    let n = r .before + r .after + r .long in
+    let rest = map aSerial (drop n xs) in
+    let w : map aSerial xs ≡ b ++ (a ++ (l ++ rest)) =
+    ap (map aSerial) (sym (take-append-drop n xs)) ∙ map-append aSerial (take n xs) (drop n xs) ∙ ap (λ (m : List Serial). m ++ rest) (sym (serials-are xs n h) ∙ e) ∙ simp append-assoc
+    in
+    rw (take-map aSerial (r .before) xs, take-map aSerial (r .after) (drop (r .before) xs), drop-map aSerial (r .before) xs, take-map aSerial (r .long) (drop (r .before + r .after) xs), drop-map aSerial (r .before + r .after) xs)
+    (parts-are (map aSerial xs) b a l rest (r .before) (r .after) (r .long) w eb ea el)

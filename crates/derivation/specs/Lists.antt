@@ -1,45 +1,30 @@
--- Reference lists (8.3.4): the run of members in the code, and the list that the paper's two lists are instances of.
+-- Reference lists (8.3.4): the run of members that is lent, and the list that the paper's two lists are instances of.
 use Prim.Native.Nat.{ℕ, _+_, _-_, _≤_, _<_}
 use mathlib.Core.Path.{_≡_}
-use mathlib.Core.List.{List}
+use mathlib.Core.List.{List, map}
 use mathlib.Core.Bool.{Bool, true, false, cond}
-use lib.ListN.{length, take, drop, getD, set, replicate}
+use lib.ListN.{length, take, drop, getD, set}
 use lib.Dec.{ltb, leb}
 use Rattle.paper.specs.declared.Serial.{Serial}
-use Rattle.paper.specs.Words.{anyB}
+use Rattle.paper.specs.Words.{anyB, table}
+use Rattle.paper.specs.Numbers.{aSerial}
 use Rattle.paper.specs.State as State
 use Rattle.paper.specs.Records.{ListAsk}
 use Rattle.paper.specs.RefLists.{candidates0, candidates1, placed}
-use Rattle.arrays.specs.Pad.{Padded}
 use Rattle.derivation.specs.declared.rows.Refs.{Refs}
-use Rattle.derivation.specs.declared.rows.RefList.{RefList}
 
-abbrev pub blankSerial : Serial
-blankSerial = record { 0 = 0 }
+-- the first n serial numbers of a run
+abbrev pub serialsIn : List ℕ → ℕ → List Serial
+serialsIn xs n = table (λ (i : ℕ). aSerial (getD xs i 0)) n
 
 -- one run: Before, After, LtCurr one behind the other; a count past the end of the run counts what is there
-unfoldable pub refsIn : Refs → State.Refs
-refsIn r =
+unfoldable pub refsIn : List ℕ → Refs → State.Refs
+refsIn xs r =
     record {
-      before = take (r .before) (r .items);
-      after = take (r .after) (drop (r .before) (r .items));
-      ltCurr = take (r .long) (drop (r .before + r .after) (r .items));
+      before = map aSerial (take (r .before) xs);
+      after = map aSerial (take (r .after) (drop (r .before) xs));
+      ltCurr = map aSerial (take (r .long) (drop (r .before + r .after) xs));
     }
-
-abbrev pub blankRefs : Refs
-blankRefs = record { items = replicate 16 blankSerial; before = 0; after = 0; long = 0 }
-
-abbrev pub HoldsList : RefList → List Serial → Type 0
-HoldsList l xs = Padded 16 blankSerial (l .items) (l .len) xs
-
-abbrev pub noList : RefList
-noList = record { items = replicate 16 blankSerial; len = 0 }
-
-abbrev pub pushed : RefList → Serial → RefList
-pushed l s = record { items = set (l .items) (l .len) s; len = l .len + 1 }
-
-abbrev pub lastSet : RefList → Serial → RefList
-lastSet l s = record { items = set (l .items) (l .len - 1) s; len = l .len }
 
 -- the candidates of list 0, or of list 1 (`second`)
 unfoldable pub candidatesOf : State.Refs → Bool → Bool → Serial → List Serial
@@ -77,3 +62,7 @@ pub record Ready (x : State.Refs) (c : Serial) (own second : Bool) (active : ℕ
 -- where the candidate at i of list 1 stands in the run, with b members of Before and a of After
 unfoldable pub swappedAt : ℕ → ℕ → ℕ → ℕ
 swappedAt b a i = cond (ltb i a) (b + i) (cond (ltb i (a + b)) (i - a) i)
+
+-- the same for list 0, which is the run itself, or list 1 (`second`)
+abbrev pub placeIn : ℕ → ℕ → Bool → ℕ → ℕ
+placeIn b a second i = cond second (swappedAt b a i) i

@@ -1,80 +1,58 @@
 // Reference lists (8.3.4): candidates, and places of them.
 use paper::Serial;
 ghost use mathlib.Core.Path.{_≡_};
-ghost use mathlib.Core.Bool.{true, false, cond, not, _&&_};
+ghost use mathlib.Core.Bool.{true, cond, not, _&&_};
 ghost use Prim.Native.Nat.{ℕ, _+_, _-_, _%_, _<_, _≤_, min, max};
-ghost use lib.ListN.{length, getD, set};
+ghost use lib.ListN.{length, getD};
 ghost use lib.Dec.{ltb, leb};
 ghost use Rattle.paper.specs.Words.{anyB};
-ghost use Rattle.paper.specs.State.{noRefs};
 ghost use Rattle.paper.specs.RefLists.{placed};
-ghost use Rattle.derivation.specs.Lists.{refsIn, blankRefs, noList, pushed, lastSet, HoldsList, StandsAt, askOf, CandidateCount, candidatesOf, listOf, Ready, swappedAt};
+ghost use Rattle.derivation.specs.Lists.{refsIn, serialsIn, StandsAt, askOf, CandidateCount, candidatesOf, listOf, Ready, swappedAt, placeIn};
 
-// The sets that lists draw on, as one run: StCurrBefore, StCurrAfter, LtCurr one behind the other.
+// The sizes of the sets that lists draw on, StCurrBefore, StCurrAfter and LtCurr. Their members lie one behind the other in a run of serial numbers.
 pub struct Refs {
-    pub items: [Serial; 16],
     pub before: u8,
     pub after: u8,
     pub long: u8,
 }
 
-// A reference list.
-pub struct RefList {
-    pub items: [Serial; 16],
-    pub len: usize,
-}
-
-impl Refs {
-    // No member in any set.
-    pub fn none() -> Refs
-        ensures { λ r. ⌜ (r ≡ blankRefs) × (refsIn r ≡ noRefs) ⌝ }
-    {
-        let blank = Serial(0);
-        let items = [blank; 16];
-        Refs {
-            items,
-            before: 0,
-            after: 0,
-            long: 0,
-        }
-    }
+// How many serial numbers a run has. Its type says so of what is lent, and a proof is told it here.
+fn count_run(words: [u32; 16]) -> usize
+    ensures { λ r. ⌜ (r ≡ 16) × (length words ≡ 16) ⌝ }
+{
+    16
 }
 
 // The lesser of a count and the room that is left.
-fn fewer(n: u8, room: usize) -> usize
+fn fewer(n: usize, room: usize) -> usize
     ensures { λ r. ⌜ r ≡ min n room ⌝ }
 {
-    let m = n as usize;
-    if m < room { m } else { room }
+    if n < room { n } else { room }
 }
 
-// How many members StCurrBefore has.
-fn before_count(refs: Refs) -> usize
-    ensures { λ r. ⌜ (r ≡ length (refsIn refs .before)) × (r ≡ min (refs .before) 16) ⌝ }
+// How many members the three sets have.
+fn member_count(refs: Refs) -> usize
+    ensures { λ r. ⌜ r ≡ min (refs .before + refs .after + refs .long) 16 ⌝ }
 {
-    fewer(refs.before, 16)
+    fewer(
+        refs.before as usize + refs.after as usize + refs.long as usize,
+        16,
+    )
 }
 
-// How many members StCurrAfter has.
-fn after_count(refs: Refs) -> usize
-    ensures { λ r. ⌜ (r ≡ length (refsIn refs .after)) × (r ≡ min (refs .after) (16 - refs .before)) ⌝ }
+// How many candidates the current picture adds.
+fn own_count(own: bool) -> usize
+    ensures { λ r. ⌜ (r ≡ cond own 1 0) × (r ≤ 1) ⌝ }
 {
-    fewer(refs.after, 16 - before_count(refs))
-}
-
-// How many members LtCurr has.
-fn long_count(refs: Refs) -> usize
-    ensures { λ r. ⌜ (r ≡ length (refsIn refs .ltCurr)) × (r ≡ min (refs .long) (16 - (refs .before + refs .after))) ⌝ }
-{
-    fewer(refs.long, 16 - (before_count(refs) + after_count(refs)))
+    if own { 1 } else { 0 }
 }
 
 // How many candidates a list has: the members of the three sets, and the current picture if it is one.
-pub fn candidate_count(refs: Refs, own: bool) -> usize
-    ensures { λ r. ⌜ CandidateCount (refsIn refs) own r ⌝ }
+pub fn candidate_count(run: &[u32; 16], refs: Refs, own: bool) -> usize
+    ensures { λ r. ⌜ CandidateCount (refsIn (now (run .entry)) refs) own r ⌝ }
 {
-    let n = before_count(refs) + after_count(refs) + long_count(refs);
-    if own { n + 1 } else { n }
+    count_run(*run);
+    member_count(refs) + own_count(own)
 }
 
 // The larger of two numbers.
@@ -126,29 +104,28 @@ fn swapped(b: usize, a: usize, i: usize) -> usize
     i
 }
 
-// The candidate of list 0 at a place; behind the members stands the current picture.
-fn member(refs: Refs, c: Serial, at: usize) -> Serial
-    ensures { λ r. ⌜ StandsAt (refsIn refs) false c at r ⌝ }
-{
-    let n = refs.before as usize + refs.after as usize + refs.long as usize;
-    if n <= at {
-        return c;
-    }
-    if 16 <= at {
-        return c;
-    }
-    refs.items[at]
-}
-
-// The candidate of list 0, or of list 1 (`second`), at a place.
-fn candidate(refs: Refs, second: bool, c: Serial, i: usize) -> Serial
-    ensures { λ r. ⌜ StandsAt (refsIn refs) second c i r ⌝ }
+// Where the candidate of list 0, or of list 1 (`second`), at i stands in the run.
+fn stands(refs: Refs, second: bool, i: usize) -> usize
+    ensures { λ r. ⌜ r ≡ placeIn (min (refs .before) 16) (min (refs .after) (16 - refs .before)) second i ⌝ }
 {
     if second {
-        let at = swapped(before_count(refs), after_count(refs), i);
-        return member(refs, c, at);
+        let b = fewer(refs.before as usize, 16);
+        let a = fewer(refs.after as usize, 16 - b);
+        return swapped(b, a, i);
     }
-    member(refs, c, i)
+    i
+}
+
+// The candidate of list 0, or of list 1 (`second`), at a place; behind the members stands the current picture.
+fn candidate(run: &[u32; 16], refs: Refs, second: bool, c: Serial, i: usize) -> Serial
+    ensures { λ r. ⌜ StandsAt (refsIn (now (run .entry)) refs) second c i r ⌝ }
+{
+    count_run(*run);
+    let at = stands(refs, second, i);
+    if member_count(refs) <= at {
+        return c;
+    }
+    Serial(run[at])
 }
 
 // Which candidate stands at place j: "place j is candidate j mod n; with the modify bit it is the candidate at the entry byte".
@@ -162,40 +139,9 @@ fn which(modify: bool, entries: &[u8], j: usize, n: usize) -> usize
     j % n
 }
 
-// One more place.
-fn push(l: RefList, s: Serial) -> RefList
-    requires { ⌜ l .len < 16 ⌝ }
-    ensures { λ r. ⌜ r ≡ pushed l s ⌝ }
-{
-    let at = l.len;
-    let mut out = l;
-    out.items[at] = s;
-    out.len = at + 1;
-    out
-}
-
-// The list with s in its last place.
-fn with_last(l: RefList, s: Serial) -> RefList
-    requires { ⌜ (0 < l .len) × (l .len ≤ 16) ⌝ }
-    ensures { λ r. ⌜ r ≡ lastSet l s ⌝ }
-{
-    let at = l.len - 1;
-    let mut out = l;
-    out.items[at] = s;
-    out
-}
-
-// A list with no place yet.
-pub fn no_list() -> RefList
-    ensures { λ r. ⌜ r ≡ noList ⌝ }
-{
-    let blank = Serial(0);
-    let items = [blank; 16];
-    RefList { items, len: 0 }
-}
-
-// The places of a list: "With n candidates, place j is candidate j mod n; with the modify bit it is the candidate at the entry byte".
-fn places(
+// Writes the places of a list: "With n candidates, place j is candidate j mod n; with the modify bit it is the candidate at the entry byte".
+fn put_places(
+    run: &[u32; 16],
     refs: Refs,
     c: Serial,
     own: bool,
@@ -203,22 +149,24 @@ fn places(
     active: usize,
     modify: bool,
     entries: &[u8],
-) -> RefList
-    requires { ⌜ Ready (refsIn refs) c own second active modify (now entries) ⌝ }
-    ensures { λ r. ⌜ HoldsList r (placed (candidatesOf (refsIn refs) own second c) (askOf active modify (now (entries .entry)))) × (r .len ≡ active) ⌝ }
+    into: &mut [u32; 16],
+)
+    requires { ⌜ Ready (refsIn (now run) refs) c own second active modify (now entries) ⌝ }
+    ensures { λ _. ⌜ serialsIn (now (into .exit)) active ≡ placed (candidatesOf (refsIn (now (run .entry)) refs) own second c) (askOf active modify (now (entries .entry))) ⌝ }
 {
-    let n = candidate_count(refs, own);
-    let mut l = no_list();
+    count_run(*into);
+    let n = candidate_count(run, refs, own);
     let mut j: usize = 0;
     while j < active {
-        l = push(l, candidate(refs, second, c, which(modify, entries, j, n)));
+        let s = candidate(run, refs, second, c, which(modify, entries, j, n));
+        into[j] = s.0;
         j += 1;
     }
-    l
 }
 
-// A reference list (8.3.4): list 0, or list 1 (`second`); `last`: it has the current picture in its last active place.
+// Writes a reference list (8.3.4): list 0, or list 1 (`second`); `last`: it has the current picture in its last active place.
 pub fn build_ref_pic_list(
+    run: &[u32; 16],
     refs: Refs,
     c: Serial,
     own: bool,
@@ -227,13 +175,15 @@ pub fn build_ref_pic_list(
     active: u8,
     modify: bool,
     entries: &[u8],
-) -> RefList
-    requires { ⌜ Ready (refsIn refs) c own second active modify (now entries) ⌝ }
-    ensures { λ r. ⌜ HoldsList r (listOf (refsIn refs) c own second last active modify (now (entries .entry))) ⌝ }
+    into: &mut [u32; 16],
+)
+    requires { ⌜ Ready (refsIn (now run) refs) c own second active modify (now entries) ⌝ }
+    ensures { λ _. ⌜ serialsIn (now (into .exit)) active ≡ listOf (refsIn (now (run .entry)) refs) c own second last active modify (now (entries .entry)) ⌝ }
 {
-    let l = places(refs, c, own, second, active as usize, modify, entries);
+    let n = active as usize;
+    put_places(run, refs, c, own, second, n, modify, entries, into);
     if last {
-        return with_last(l, c);
+        count_run(*into);
+        into[n - 1] = c.0;
     }
-    l
 }

@@ -1,4 +1,1 @@
-pub mod Laws
-pub mod Reading
-pub mod Stepping
-pub mod Bridge
+pub mod ReadBack

@@ -1,3 +1,2 @@
-pub mod Layout
 pub mod Lent
-pub mod Calls
+pub mod Layout

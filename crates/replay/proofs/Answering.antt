@@ -10,15 +10,15 @@ use lib.Seq.{take-at, take-add, length-take-le, getD-take}
 use borrow.Author.Tests.{le-ltb, eqb-true}
 use Rattle.wire.specs.Bytes.{over}
 use Rattle.paper.specs.Words.{allB}
-use Rattle.paper.specs.Records.{kindOf, lengthOf}
-use Rattle.paper.specs.Step.{Result, stepOf}
+use Rattle.paper.specs.Records.{lengthOf}
+use Rattle.paper.specs.State as P
+use Rattle.paper.specs.Step.{Result, stepOf, replies, sessionAfter}
 use Rattle.paper.proofs.Bools.{both, left, right}
-use Rattle.session.specs.declared.Session.{Session}
 use Rattle.session.specs.declared.Answer.{Answer}
-use Rattle.session.specs.Said.{Permitted, answerOf}
-use Rattle.session.specs.View.{view, nextOf}
+use Rattle.session.specs.Said.{Permitted}
+use Rattle.session.specs.View.{Memory, sessionIn}
 use Rattle.framing.specs.Cut.{joined, isWhole}
-use Rattle.replay.specs.Answers.{repliesTo, afterAll, Added, Answers}
+use Rattle.replay.specs.Answers.{Added, Answers}
 use Rattle.framing.specs.Cut.{sizeOf}
 use Rattle.framing.proofs.Fitting.{size-whole, size-short}
 use Rattle.replay.proofs.Fitting.{reply-fits}
@@ -26,16 +26,12 @@ use Rattle.replay.proofs.Fitting.{reply-fits}
 -- ---- one reply
 
 -- any room from 512 bytes on gives the same
-same-room : (s : Session) (r : List ℕ) (room : ℕ) → 512 ≤ room → stepOf (view s) r room ≡ stepOf (view s) r 512
+same-room : (v : P.Session) (r : List ℕ) (room : ℕ) → 512 ≤ room → stepOf v r room ≡ stepOf v r 512
 unfolding stepOf
-same-room s r room h = rw (le-ltb room 512 h)
+same-room v r room h = rw (le-ltb room 512 h)
 
--- the answer that a result gives
-abbrev answerTo : Session → List ℕ → Result → Answer
-answerTo s r x = record { number = x .number; len = length (x .bytes); next = cond (eqb (x .number) 0) (nextOf s (kindOf r) (x .next)) s }
-
-module _ {s : Session} {r part : List ℕ} {a : Answer} (made : ℕ) (before post : List ℕ) (h : made + 512 ≤ length before)
-    (same : length part ≡ length (take (length before - made) (drop made before))) (p : Permitted s r (take (length before - made) (drop made before)) a part) where
+module _ {m m′ : Memory} {r part : List ℕ} {a : Answer} (made : ℕ) (before post : List ℕ) (h : made + 512 ≤ length before)
+    (same : length part ≡ length (take (length before - made) (drop made before))) (p : Permitted m r (take (length before - made) (drop made before)) a m′ part) where
   mid : List ℕ
   mid = take (length before - made) (drop made before)
 
@@ -44,22 +40,18 @@ module _ {s : Session} {r part : List ℕ} {a : Answer} (made : ℕ) (before pos
   room = length-take-le (length before - made) (drop made before) (simp length-drop (omega arith))
 
   said : List ℕ
-  said = stepOf (view s) r 512 .bytes
+  said = stepOf (sessionIn m) r 512 .bytes
 
-  same-step : stepOf (view s) r (length mid) ≡ stepOf (view s) r 512
-  same-step = let k = room in same-room s r (length mid) (omega arith)
+  same-step : stepOf (sessionIn m) r (length mid) ≡ stepOf (sessionIn m) r 512
+  same-step = let k = room in same-room (sessionIn m) r (length mid) (omega arith)
 
-  bytes-are : stepOf (view s) r (length mid) .bytes ≡ said
+  bytes-are : stepOf (sessionIn m) r (length mid) .bytes ≡ said
   unfolding said
   bytes-are = ap (λ (x : Result). x .bytes) same-step
 
-  answer-is : a ≡ answerOf s r 512
-  unfolding mid
-  answer-is = p .answer ∙ ap (answerTo s r) same-step
-
   len-is : a .len ≡ length said
-  unfolding said
-  len-is = ap (λ (x : Answer). x .len) answer-is
+  unfolding said mid
+  len-is = ap (λ (x : Answer). x .len) (p .answer) ∙ ap length bytes-are
 
   laid : take (made + a .len) (take made before ++ (part ++ post)) ≡ take made before ++ said
   unfolding over mid
@@ -72,9 +64,9 @@ module _ {s : Session} {r part : List ℕ} {a : Answer} (made : ℕ) (before pos
       length-append (take made before) said ∙ ap₂ (λ (x y : ℕ). x + y) (length-take-le made before (omega arith)) (sym len-is) in
       ap (take (made + a .len)) f ∙ take-at (take made before ++ said) (rest ++ post) (made + a .len) g
 
-  pub added : Added s r made before a (take made before ++ (part ++ post))
+  pub added : Added m r made before a m′ (take made before ++ (part ++ post))
   unfolding said mid
-  added = let k = reply-fits p same in let q = room in record { answer = answer-is; fits = omega arith; bytes = laid }
+  added = let k = reply-fits p same in let q = room in record { fits = omega arith; bytes = laid; next = p .next ∙ ap (λ (x : Result). x .next) same-step }
 
 -- ---- one record more
 
@@ -83,42 +75,42 @@ unfolding joined
 joined-more [] r = append-nil r
 joined-more (q ∷ rs) r = ap (λ (x : List ℕ). q ++ x) (joined-more rs r) ∙ sym (append-assoc q (joined rs) r)
 
-replies-more : (s : Session) (rs : List (List ℕ)) (r : List ℕ) → joined (repliesTo s (rs ++ (r ∷ []))) ≡ joined (repliesTo s rs) ++ stepOf (view (afterAll s rs)) r 512 .bytes
-unfolding joined repliesTo afterAll
-replies-more s [] r = append-nil _
-replies-more s (q ∷ rs) r =
-    let b = stepOf (view s) q 512 .bytes in
-    let n = answerOf s q 512 .next in
-    ap (λ (x : List ℕ). b ++ x) (replies-more n rs r) ∙ sym (append-assoc b (joined (repliesTo n rs)) _)
+replies-more : (v : P.Session) (rs : List (List ℕ)) (r : List ℕ) → joined (replies v (rs ++ (r ∷ []))) ≡ joined (replies v rs) ++ stepOf (sessionAfter v rs) r 512 .bytes
+unfolding joined replies sessionAfter
+replies-more v [] r = append-nil _
+replies-more v (q ∷ rs) r =
+    let b = stepOf v q 512 .bytes in
+    let n = stepOf v q 512 .next in
+    ap (λ (x : List ℕ). b ++ x) (replies-more n rs r) ∙ sym (append-assoc b (joined (replies n rs)) _)
 
-after-more : (s : Session) (rs : List (List ℕ)) (r : List ℕ) → afterAll s (rs ++ (r ∷ [])) ≡ answerOf (afterAll s rs) r 512 .next
-unfolding afterAll
-after-more s [] r = refl
-after-more s (q ∷ rs) r = after-more (answerOf s q 512 .next) rs r
+after-more : (v : P.Session) (rs : List (List ℕ)) (r : List ℕ) → sessionAfter v (rs ++ (r ∷ [])) ≡ stepOf (sessionAfter v rs) r 512 .next
+unfolding sessionAfter
+after-more v [] r = refl
+after-more v (q ∷ rs) r = after-more (stepOf v q 512 .next) rs r
 
 whole-more : (rs : List (List ℕ)) (r : List ℕ) → allB isWhole rs ≡ true → isWhole r ≡ true → allB isWhole (rs ++ (r ∷ [])) ≡ true
 unfolding allB
 whole-more [] r a b = both b refl
 whole-more (q ∷ rs) r a b = both (left (isWhole q) (allB isWhole rs) a) (whole-more rs r (right (isWhole q) (allB isWhole rs) a) b)
 
-pub nothing-yet : (s : Session) (input output : List ℕ) → Answers s input s 0 0 output
-unfolding joined repliesTo afterAll allB
-nothing-yet s input output = record { said = []; whole = refl; cut = refl; replied = refl; after = refl }
+pub nothing-yet : (m : Memory) (input output : List ℕ) → Answers m input m 0 0 output
+unfolding joined replies sessionAfter allB
+nothing-yet m input output = record { said = []; whole = refl; cut = refl; replied = refl; after = refl }
 
-module _ {s next : Session} {input output : List ℕ} {a : Answer} (taken made n : ℕ) (after : List ℕ) (h : 0 < n) (e : n ≡ sizeOf (drop taken input))
-    (g : Answers s input next taken made output) (d : Added next (take (taken + n - taken) (drop taken input)) made output a after) where
-  pub one-answered : Answers s input (a .next) (taken + n) (made + a .len) after
+module _ {m next m′ : Memory} {input output : List ℕ} {a : Answer} (taken made n : ℕ) (after : List ℕ) (h : 0 < n) (e : n ≡ sizeOf (drop taken input))
+    (g : Answers m input next taken made output) (d : Added next (take (taken + n - taken) (drop taken input)) made output a m′ after) where
+  pub one-answered : Answers m input m′ (taken + n) (made + a .len) after
   one-answered =
       let k : taken + n - taken ≡ n = omega arith in
       let r = take n (drop taken input) in
-      let b : Added next r made output a after = subst (λ (m : ℕ). Added next (take m (drop taken input)) made output a after) k d in
+      let b : Added next r made output a m′ after = subst (λ (j : ℕ). Added next (take j (drop taken input)) made output a m′ after) k d in
       let rs = g .said in
       record {
         said = rs ++ (r ∷ []);
         whole = whole-more rs r (g .whole) (size-whole (drop taken input) n h e);
         cut = take-add taken n input ∙ ap (λ (x : List ℕ). x ++ r) (g .cut) ∙ sym (joined-more rs r);
-        replied = b .bytes ∙ ap₂ (λ (x : List ℕ) (y : Session). x ++ stepOf (view y) r 512 .bytes) (g .replied) (g .after) ∙ sym (replies-more s rs r);
-        after = ap (λ (x : Answer). x .next) (b .answer) ∙ ap (λ (y : Session). answerOf y r 512 .next) (g .after) ∙ sym (after-more s rs r);
+        replied = b .bytes ∙ ap₂ (λ (x : List ℕ) (v : P.Session). x ++ stepOf v r 512 .bytes) (g .replied) (g .after) ∙ sym (replies-more (sessionIn m) rs r);
+        after = b .next ∙ ap (λ (v : P.Session). stepOf v r 512 .next) (g .after) ∙ sym (after-more (sessionIn m) rs r);
       }
 
 -- ---- nothing whole
@@ -131,21 +123,28 @@ none-said (r ∷ rs) w e =
     let b : 0 ≡ length r + length (joined rs) = ap length e ∙ length-append r (joined rs) in
     absurd (omega arith)
 
-none-made : {s next : Session} {input output : List ℕ} {made : ℕ} → Answers s input next 0 made output → made ≤ length output → made ≡ 0
-unfolding joined repliesTo
-none-made {s} {output = output} {made = made} g h =
-    let e : take made output ≡ [] = g .replied ∙ ap (λ (rs : List (List ℕ)). joined (repliesTo s rs)) (none-said (g .said) (g .whole) (g .cut)) in
+-- the session is as it was
+pub none-changed : {m next : Memory} {input output : List ℕ} {taken made : ℕ} → taken ≡ 0 → Answers m input next taken made output → sessionIn next ≡ sessionIn m
+unfolding sessionAfter
+none-changed {m} {next} {input} {output} {taken} {made} z a =
+    let g = subst (λ (n : ℕ). Answers m input next n made output) z a in
+    g .after ∙ ap (sessionAfter (sessionIn m)) (none-said (g .said) (g .whole) (g .cut))
+
+none-made : {m next : Memory} {input output : List ℕ} {made : ℕ} → Answers m input next 0 made output → made ≤ length output → made ≡ 0
+unfolding joined replies
+none-made {m} {output = output} {made = made} g h =
+    let e : take made output ≡ [] = g .replied ∙ ap (λ (rs : List (List ℕ)). joined (replies (sessionIn m) rs)) (none-said (g .said) (g .whole) (g .cut)) in
     let k : length (take made output) ≡ 0 = ap length e in
     let q = length-take-le made output h in
     omega arith
 
 -- where no record is whole there is room to read on
-module _ {s next : Session} (held taken made : ℕ) (input output : List ℕ) (none : taken ≡ 0) (g : Answers s (take held input) next taken made output)
+module _ {m next : Memory} (held taken made : ℕ) (input output : List ℕ) (none : taken ≡ 0) (g : Answers m (take held input) next taken made output)
     (all : made + 512 ≤ length output → sizeOf (drop taken (take held input)) ≡ 0) (within : made ≤ length output) (room : 512 ≤ length output)
     (bytes : (k : ℕ) → getD input k 0 < 256) (long : 65539 ≤ length input) (inside : held ≤ length input) where
   no-size : sizeOf (take held input) ≡ 0
   no-size =
-      let m : made ≡ 0 = none-made (subst (λ (n : ℕ). Answers s (take held input) next n made output) none g) within in
+      let z : made ≡ 0 = none-made (subst (λ (n : ℕ). Answers m (take held input) next n made output) none g) within in
       subst (λ (n : ℕ). sizeOf (drop n (take held input)) ≡ 0) none (all (omega arith))
 
   small : 4 ≤ length (take held input) → lengthOf (take held input) < 65536

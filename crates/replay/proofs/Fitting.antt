@@ -6,10 +6,9 @@ use native.Mathlib.Omega.{arith}
 use lib.ListN.{length, drop, length-drop, length-append}
 use Rattle.wire.specs.Bytes.{over}
 use Rattle.paper.specs.Step.{stepOf}
-use Rattle.session.specs.declared.Session.{Session}
 use Rattle.session.specs.declared.Answer.{Answer}
 use Rattle.session.specs.Said.{Permitted}
-use Rattle.session.specs.View.{view}
+use Rattle.session.specs.View.{Memory, sessionIn}
 
 over-longest : (p l : List ℕ) → length (over p l) ≡ length l → length p ≤ length l
 unfolding over
@@ -18,9 +17,9 @@ over-longest p l e =
     omega arith
 
 -- a reply ends within the room that was lent
-pub reply-fits : {s : Session} {r before : List ℕ} {a : Answer} {after : List ℕ} → Permitted s r before a after → length after ≡ length before → a .len ≤ length before
-reply-fits {s} {r} {before} {a} {after} p e =
-    let b = stepOf (view s) r (length before) .bytes in
+pub reply-fits : {m m′ : Memory} {r before : List ℕ} {a : Answer} {after : List ℕ} → Permitted m r before a m′ after → length after ≡ length before → a .len ≤ length before
+reply-fits {m} {m′} {r} {before} {a} {after} p e =
+    let b = stepOf (sessionIn m) r (length before) .bytes in
     let h : length b ≤ length before = over-longest b before (sym (ap length (p .bytes)) ∙ e) in
     let k : a .len ≡ length b = ap (λ (x : Answer). x .len) (p .answer) in
     omega arith

@@ -1,33 +1,25 @@
--- What the program answers is what the paper's session says: each call's next session views as the paper's.
-use mathlib.Core.Path.{_≡_, refl, ap, _∙_}
-use mathlib.Core.List.{List, [], _∷_}
+-- What the program answers from a fresh session are the paper's replies, which its contracts cite: a ledger over them finds nothing broken.
+use mathlib.Core.Path.{_≡_, ap, _∙_}
+use mathlib.Core.List.{List}
 use Prim.Native.Nat.{ℕ}
 use Rattle.paper.specs.State.{fresh}
 use Rattle.paper.specs.State as P
-use Rattle.paper.specs.Step.{stepOf, replies}
+use Rattle.paper.specs.Step.{replies}
 use Rattle.paper.specs.Ledger.{blank}
 use Rattle.paper.specs.Statement.{Bytes, Kept}
 use Rattle.paper.specs.Watch.{watched, pairs}
 use Rattle.paper.proofs.Watching.{watched-kept}
 use Rattle.paper.proofs.Unbroken.{watched-fresh}
-use Rattle.session.specs.declared.Session.{Session}
-use Rattle.session.specs.View.{view, laid}
-use Rattle.session.specs.Said.{answerOf}
-use Rattle.session.proofs.Bridge.{views-at, fresh-views}
-use Rattle.replay.specs.Answers.{repliesTo}
+use Rattle.session.specs.View.{Memory, sessionIn}
 
-replies-are : (s : Session) (rs : List (List ℕ)) → repliesTo s rs ≡ replies (view s) rs
-unfolding repliesTo replies
-replies-are s [] = refl
-replies-are s (r ∷ rs) = λ i. stepOf (view s) r 512 .bytes ∷ (replies-are (answerOf s r 512 .next) rs ∙ ap (λ (v : P.Session). replies v rs) (views-at s r 512)) i
+module _ (m : Memory) (start : sessionIn m ≡ fresh) (rs : List (List ℕ)) where
+  -- from the memory that `fresh` leaves, the replies to whole records are the paper's from its fresh session
+  pub replay-replies : replies (sessionIn m) rs ≡ replies fresh rs
+  replay-replies = ap (λ (v : P.Session). replies v rs) start
 
--- from a fresh session the replies to whole records are the paper's
-pub replay-replies : (rs : List (List ℕ)) → repliesTo (laid fresh) rs ≡ replies fresh rs
-replay-replies rs = replies-are (laid fresh) rs ∙ ap (λ (v : P.Session). replies v rs) fresh-views
+  -- A LEDGER OVER THEM FINDS NOTHING BROKEN, and the records and replies keep demand 3
+  pub replay-unbroken : Bytes rs → watched 1 blank rs (replies (sessionIn m) rs) .part ≡ 0
+  replay-unbroken b = ap (λ (answers : List (List ℕ)). watched 1 blank rs answers .part) replay-replies ∙ watched-fresh rs b
 
--- A LEDGER OVER THEM FINDS NOTHING BROKEN, and the records and replies keep demand 3
-pub replay-unbroken : (rs : List (List ℕ)) → Bytes rs → watched 1 blank rs (repliesTo (laid fresh) rs) .part ≡ 0
-replay-unbroken rs b = ap (λ (answers : List (List ℕ)). watched 1 blank rs answers .part) (replay-replies rs) ∙ watched-fresh rs b
-
-pub replay-kept : (rs : List (List ℕ)) → Bytes rs → Kept (pairs rs (repliesTo (laid fresh) rs))
-replay-kept rs b = watched-kept rs (repliesTo (laid fresh) rs) (replay-unbroken rs b)
+  pub replay-kept : Bytes rs → Kept (pairs rs (replies (sessionIn m) rs))
+  replay-kept b = watched-kept rs (replies (sessionIn m) rs) (replay-unbroken b)

@@ -1,12 +1,14 @@
 // Layer 4, the program: "reads records from standard input and writes the replies". A record is answered when all of it is there. So the session itself
 // answers 13 to a body over 512 bytes, and a last record that is incomplete gets no reply.
 use session::Answer;
-use session::Session;
+use session::HEAD;
 use store::Store;
 ghost use mathlib.Core.Path.{_≡_};
 ghost use Prim.Native.Nat.{_+_, _-_, _≤_, _<_};
 ghost use lib.ListN.{length, take, drop};
+ghost use Rattle.paper.specs.State.{fresh as freshSession};
 ghost use Rattle.framing.specs.Cut.{sizeOf};
+ghost use Rattle.session.specs.View.{memory, sessionIn};
 ghost use Rattle.replay.specs.Answers.{Added, Answers, Turned};
 
 // A record has at most 65,539 bytes, so there is always room to read on behind one that is not whole yet.
@@ -15,86 +17,98 @@ const INPUT: usize = 131072;
 // Room for the replies of one write.
 const OUTPUT: usize = 65536;
 
-// The session after some records, how many bytes these had, and how many their replies have.
+// How many bytes of records were answered, and how many their replies have.
 struct Answered {
-    next: Session,
     taken: usize,
     made: usize,
 }
 
-// The session, how many bytes wait at the start of the input buffer, and whether the run goes on.
+// How many bytes wait at the start of the input buffer, and whether the run goes on.
 struct After {
-    next: Session,
     held: usize,
     more: bool,
 }
 
 // Answers one record, with the reply behind the `made` bytes of the earlier ones.
-fn reply_to(s: Session, msg: &[u8], replies: &mut [u8], made: usize) -> Answer
+fn reply_to(
+    head: &mut [u32; HEAD],
+    sets: &mut [u32; Store::CAPACITY],
+    places: &mut [u32; Store::WORDS],
+    msg: &[u8],
+    replies: &mut [u8],
+    made: usize,
+) -> Answer
     requires { ⌜ made + 512 ≤ length (now replies) ⌝ }
-    ensures { λ r. ⌜ Added s (now (msg .entry)) made (now (replies .entry)) r (now (replies .exit)) ⌝ }
+    ensures { λ r. ⌜ Added (memory (now (head .entry)) (now (sets .entry)) (now (places .entry))) (now (msg .entry)) made (now (replies .entry)) r (memory (now (head .exit)) (now (sets .exit)) (now (places .exit))) (now (replies .exit)) ⌝ }
 {
-    session::step(s, msg, &mut replies[made..])
+    session::step(head, sets, places, msg, &mut replies[made..])
 }
 
 // Answers the whole records at the start of these bytes, one after the other, while there is room for a reply.
-fn answer(s: Session, bytes: &[u8], replies: &mut [u8]) -> Answered
+fn answer(
+    head: &mut [u32; HEAD],
+    sets: &mut [u32; Store::CAPACITY],
+    places: &mut [u32; Store::WORDS],
+    bytes: &[u8],
+    replies: &mut [u8],
+) -> Answered
     ensures within { λ r. ⌜ (r .taken ≤ length (now (bytes .entry))) × (r .made ≤ length (now (replies .exit))) ⌝ }
-    ensures answers { λ r. ⌜ Answers s (now (bytes .entry)) (r .next) (r .taken) (r .made) (now (replies .exit)) ⌝ }
+    ensures answers { λ r. ⌜ Answers (memory (now (head .entry)) (now (sets .entry)) (now (places .entry))) (now (bytes .entry)) (memory (now (head .exit)) (now (sets .exit)) (now (places .exit))) (r .taken) (r .made) (now (replies .exit)) ⌝ }
     ensures all { λ r. ⌜ (r .made + 512 ≤ length (now (replies .exit)) → sizeOf (drop (r .taken) (now (bytes .entry))) ≡ 0) ⌝ }
 {
-    let mut next = s;
     let mut taken = 0;
     let mut made = 0;
     while made + Store::REPLY <= replies.len() {
         let n = framing::size(&bytes[taken..]);
         if n == 0 {
-            return Answered { next, taken, made };
+            return Answered { taken, made };
         }
         let e = taken + n;
-        let a = reply_to(next, &bytes[taken..e], replies, made);
-        let after = a.next;
-        next = after;
+        let a = reply_to(head, sets, places, &bytes[taken..e], replies, made);
         taken = e;
         made += a.len;
     }
-    Answered { next, taken, made }
+    Answered { taken, made }
 }
 
 // One read behind the `held` bytes that wait, with room for one byte at least: none is read only at the end of the input, which ends the run.
-fn read_on(s: Session, held: usize, input: &mut [u8]) -> After
+fn read_on(held: usize, input: &mut [u8]) -> After
     requires { ⌜ held < length (now input) ⌝ }
     ensures { λ r. ⌜ r .held ≤ length (now (input .exit)) ⌝ }
-    ensures kept { λ r. ⌜ (take held (now (input .exit)) ≡ take held (now (input .entry))) × (held ≤ r .held) × (r .next ≡ s) ⌝ }
+    ensures kept { λ r. ⌜ (take held (now (input .exit)) ≡ take held (now (input .entry))) × (held ≤ r .held) ⌝ }
 {
     let rest = &mut input[held..];
     let got = libc::read(0, rest);
     let n = io::count(got, rest);
     After {
-        next: s,
         held: held + n,
         more: n > 0,
     }
 }
 
 // Answers what is whole and writes the replies; reads on only where nothing is whole, so that no reply waits for input.
-fn turn(s: Session, held: usize, input: &mut [u8], output: &mut [u8]) -> After
+fn turn(
+    head: &mut [u32; HEAD],
+    sets: &mut [u32; Store::CAPACITY],
+    places: &mut [u32; Store::WORDS],
+    held: usize,
+    input: &mut [u8],
+    output: &mut [u8],
+) -> After
     requires { ⌜ held ≤ length (now input) ⌝ }
     requires { ⌜ (65539 ≤ length (now input)) × (512 ≤ length (now output)) ⌝ }
     ensures { λ r. ⌜ r .held ≤ length (now (input .exit)) ⌝ }
-    ensures turned { λ r. ⌜ Turned s held (now (input .entry)) (r .next) (r .held) (now (input .exit)) (now (output .exit)) ⌝ }
+    ensures turned { λ r. ⌜ Turned (memory (now (head .entry)) (now (sets .entry)) (now (places .entry))) held (now (input .entry)) (memory (now (head .exit)) (now (sets .exit)) (now (places .exit))) (r .held) (now (input .exit)) (now (output .exit)) ⌝ }
 {
-    let a = answer(s, &input[..held], output);
+    let a = answer(head, sets, places, &input[..held], output);
     let taken = a.taken;
     if taken == 0 {
-        return read_on(s, held, input);
+        return read_on(held, input);
     }
     let made = a.made;
     let more = io::write_all(1, &output[..made]);
     framing::shift(input, taken, held);
-    let next = a.next;
     After {
-        next,
         held: held - taken,
         more,
     }
@@ -104,16 +118,17 @@ fn turn(s: Session, held: usize, input: &mut [u8], output: &mut [u8]) -> After
 fn run(input: &mut [u8], output: &mut [u8])
     requires { ⌜ (65539 ≤ length (now input)) × (512 ≤ length (now output)) ⌝ }
 {
-    let mut s = session::fresh();
+    let mut head = [0u32; HEAD];
+    let mut sets = [0u32; Store::CAPACITY];
+    let mut places = [0u32; Store::WORDS];
+    session::fresh(&mut head, &mut sets, &mut places);
     let mut held = 0;
     let mut left: u64 = 18446744073709551615;
     while left > 0 {
-        let t = turn(s, held, input, output);
+        let t = turn(&mut head, &mut sets, &mut places, held, input, output);
         if !t.more {
             return;
         }
-        let next = t.next;
-        s = next;
         held = t.held;
         left -= 1;
     }

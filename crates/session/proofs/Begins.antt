@@ -1,11 +1,10 @@
--- A begin, stage by stage: what the code has read and computed is what the paper's steps say.
-use Prim.Native.Nat.{ℕ, _+_, _-_, _*_, _≤_, _<_, _^_, min}
+-- A begin, stage by stage: what the code has read and computed is what the paper's steps say. Assumes nothing.
+use Prim.Native.Nat.{ℕ, _+_, _≤_, _^_}
 use mathlib.Core.Path.{_≡_, refl, sym, ap, _∙_, subst}
-use mathlib.Core.List.{List, [], _∷_, _++_, map, append-assoc}
+use mathlib.Core.List.{List, [], _∷_, _++_, map-append, append-assoc}
 use mathlib.Core.Bool.{Bool, true, false, cond, not, _&&_}
 use native.Mathlib.Omega.{arith}
-use lib.ListN.{length, take, drop, replicate, length-map, length-append}
-use lib.Seq.{take-add, take-append-seam, drop-append-seam}
+use lib.ListN.{length, length-map, length-append}
 use lib.Dec.{eqb}
 use lib.IntN.{ℤ}
 use lib.Signed.{mag}
@@ -13,172 +12,151 @@ use borrow.Author.Tests.{ltb-true, not-true, not-false}
 use mir.Syntax.{w32}
 use mir.Val.{toZ, ofZ}
 use mir.Facts.{toZ-ofZ}
-use Rattle.paper.proofs.Bools.{left, right}
-use Rattle.arrays.specs.Pad.{Padded, pad}
-use Rattle.wire.specs.Bytes.{over}
 use Rattle.paper.specs.declared.Picture.{Picture}
 use Rattle.paper.specs.declared.Serial.{Serial}
-use Rattle.paper.specs.declared.Wish.{Wish}
+use Rattle.paper.specs.declared.Limits.{Limits}
 use Rattle.paper.specs.declared.Prev.{Prev}
 use Rattle.paper.specs.declared.Current.{Current}
-use Rattle.paper.specs.declared.Now.{Now}
 use Rattle.paper.specs.declared.Now.the-variants as Now
 use Rattle.paper.specs.Words.{table}
-use Rattle.paper.specs.Numbers.{u8, serialNos, aSerial, flagAt}
+use Rattle.paper.specs.Numbers.{serialNos, aSerial, flagAt}
 use Rattle.paper.specs.Flags.{validPrev}
-use Rattle.paper.specs.State.{modulus}
-use Rattle.paper.specs.State as P
-use Rattle.paper.specs.Records.{Fields, fieldsOf, shortAt, longAt}
-use Rattle.paper.specs.Ranges.{entriesOf, beginRanges}
+use Rattle.paper.specs.State.{Session, isCurrent, modulus}
+use Rattle.paper.specs.Records.{Fields, fieldsOf}
+use Rattle.paper.specs.Ranges.{beginRanges}
 use Rattle.paper.specs.Poc.{in32, msbOf, pocOf}
-use Rattle.paper.specs.Sets.{Wishes, wishesOf, wishesIn32, inOrder, refsOf, setsOf, marksOf, unmarkedIf}
-use Rattle.paper.specs.Sets.{Sets as FiveSets}
-use Rattle.paper.specs.Output.{Tail, Moved, beforeDecoding}
+use Rattle.paper.specs.Sets.{Sets, Wishes, wishesOf, wishesIn32, inOrder, refsOf, setsOf, marksOf, unmarkedIf}
+use Rattle.paper.specs.Output.{Moved, beforeDecoding}
 use Rattle.paper.specs.Begin.{noRasl, outputFlag, noPrior, startsOver, prevFor, msb, poc, wishes, within, unmarkedStore, sets, markedStore, roomMade, begunCurrent, begunSession}
 use Rattle.paper.specs.Replies.{words, tailBytes, flagsByte, begunBytes, framed, bytesOf}
 use Rattle.paper.specs.Step.{refused, beginOf, begunOf}
+use Rattle.paper.proofs.Bools.{left, right}
 use Rattle.paper.proofs.Ways.{begun}
 use Rattle.paper.proofs.Fits.{few-entries, table-length}
+use Rattle.wire.specs.Bytes.{over}
 use Rattle.derivation.specs.declared.order.Poc.{Poc}
 use Rattle.derivation.specs.declared.order.Poc.the-variants as A
+use Rattle.derivation.specs.declared.rows.Refs.{Refs}
 use Rattle.derivation.specs.Answers.{pocAnswer}
 use Rattle.derivation.specs.Lists.{refsIn}
 use Rattle.derivation.proofs.Numbered.{poc-val, poc-out}
-use Rattle.store.specs.declared.Wanted16.{Wanted16}
-use Rattle.store.specs.declared.Outcome.{Outcome}
-use Rattle.store.specs.declared.Derived.{Derived}
-use Rattle.store.specs.declared.Sets.{Sets}
-use Rattle.store.specs.Store.{HoldsMoved, movedIn}
-use Rattle.store.specs.Store as S
-use Rattle.arrays.proofs.Pad.{is-view}
-use Rattle.store.specs.Sets.{Few, wishesIn, HoldsSets, HoldsDerived}
-use Rattle.store.proofs.Moves.{moved-is}
-use Rattle.store.proofs.Views.{first-part, second-of-three, third-of-three, refs-are, rest-are}
-use Rattle.session.specs.declared.Session.{Session}
+use Rattle.derivation.proofs.Runs.{refs-are}
+use Rattle.session.specs.declared.Answer.{Answer}
+use Rattle.store.specs.declared.Sizes.{Sizes}
+use Rattle.store.specs.declared.Tally.{Tally}
 use Rattle.session.specs.declared.reading.Head.{Head}
-use Rattle.session.specs.declared.reading.Wanting.{Wanting}
 use Rattle.session.specs.declared.starting.Flags.{Flags}
 use Rattle.session.specs.declared.starting.Start.{Start}
 use Rattle.session.specs.declared.writing.Told.{Told}
-use Rattle.session.specs.View.{view, nextOf, packed, packedRefs}
-use Rattle.session.specs.Said.{Says}
-use Rattle.session.specs.Parts.{headOf, noWish, HoldsWishes}
-use Rattle.session.specs.Written.{FewMembers, memberBytes, begunPart, toldBytes}
-use Rattle.session.specs.Starts.{flagsFrom, flagsNumber, prevFrom, currentFrom, wantedFrom, Passed, Placed, Wished}
-use Rattle.session.proofs.Saying.{as-decided, packed-is, refs-packed}
+use Rattle.store.specs.Shelf.{word, stored}
+use Rattle.store.specs.Tails.{serialAt, serialsIn, tailIn}
+use Rattle.store.specs.Bumps.{Leaves}
+use Rattle.store.specs.Runs.{wishesIn, HoldsSets, Derives}
+use Rattle.session.specs.View.{Memory, memory, sessionIn, sessionOf, Front, frontIn, limitsAt, currentAt, nowAt, flagOf, begunFront}
+use Rattle.session.specs.Said.{Says, Answers, Does}
+use Rattle.session.specs.Parts.{headOf, HoldsWishes}
+use Rattle.session.specs.Written.{FewMembers, numbersFrom, memberBytes, begunPart, toldBytes}
+use Rattle.session.specs.Starts.{flagsFrom, prevFrom, currentFrom, toldFrom, refsFrom, Passed, Placed, Wished, Tells}
+use Rattle.store.proofs.Shelf.{table-same, table-map, table-join}
 use Rattle.session.proofs.Bytes.{words-join}
+use Rattle.session.proofs.Entries.{entries-are}
 use Rattle.session.proofs.Ways.{begin-6, begin-0}
+use Rattle.session.proofs.Wishing.{apart}
+use Rattle.session.proofs.Saying.{as-decided}
 
 -- ---- number 6 and acceptance, behind the other tests
 
 module _ (s : Session) (r : List ℕ) (p : Passed s r) where
-  abbrev v : P.Session
-  v = view s
-
   abbrev f : Fields
   f = fieldsOf r
 
-  pub outside : within v f ≡ false → beginOf v f ≡ refused v 258 6
-  outside e = begin-6 v f (rw (p .configured)) (p .idle) (rw (p .ranges)) (p .roomy) (p .free) e
+  pub outside : within s f ≡ false → beginOf s f ≡ refused s 258 6
+  outside e = begin-6 s f (rw (p .configured)) (p .idle) (rw (p .ranges)) (p .roomy) (p .free) e
 
-  pub inside : within v f ≡ true → beginOf v f ≡ begun v f
-  inside e = begin-0 v f (rw (p .configured)) (p .idle) (rw (p .ranges)) (p .roomy) (p .free) e
+  pub inside : within s f ≡ true → beginOf s f ≡ begun s f
+  inside e = begin-0 s f (rw (p .configured)) (p .idle) (rw (p .ranges)) (p .roomy) (p .free) e
 
 -- ---- steps 1 and 2
 
-starts-is : (s : Session) (r : List ℕ) → startsOver (view s) (fieldsOf r) ≡ flagsFrom (s .start) (s .ended) (headOf r) .over
-unfolding noRasl fieldsOf
-starts-is s r = refl
+module _ (s : Session) (r : List ℕ) where
+  abbrev flagsNow : Flags
+  flagsNow = flagsFrom (s .atStart) (s .ended) (headOf r)
 
-prev-is : (s : Session) (r : List ℕ) → prevFor (view s) (fieldsOf r) ≡ prevFrom (flagsFrom (s .start) (s .ended) (headOf r) .over) (s .prev)
-prev-is s r = ap (λ (b : Bool). prevFrom b (s .prev)) (starts-is s r)
+  abbrev prevNow : Prev
+  prevNow = prevFrom (flagsNow .over) (s .prev)
 
-pub msb-is : (s : Session) (r : List ℕ) → msbOf (modulus (s .limits)) (prevFrom (flagsFrom (s .start) (s .ended) (headOf r) .over) (s .prev)) (headOf r .lsb) ≡ msb (view s) (fieldsOf r)
-unfolding msb fieldsOf
-msb-is s r = ap (λ (q : Prev). msbOf (modulus (s .limits)) q (headOf r .lsb)) (sym (prev-is s r))
+  starts-is : startsOver s (fieldsOf r) ≡ flagsNow .over
+  unfolding noRasl fieldsOf
+  starts-is = refl
 
-pub poc-is : (s : Session) (r : List ℕ) → pocOf (modulus (s .limits)) (prevFrom (flagsFrom (s .start) (s .ended) (headOf r) .over) (s .prev)) (headOf r .lsb) ≡ poc (view s) (fieldsOf r)
-unfolding poc fieldsOf
-poc-is s r = ap (λ (q : Prev). pocOf (modulus (s .limits)) q (headOf r .lsb)) (sym (prev-is s r))
+  prev-is : prevFor s (fieldsOf r) ≡ prevNow
+  prev-is = ap (λ (b : Bool). prevFrom b (s .prev)) starts-is
 
-and-no : (a b c : Bool) → (a && b) ≡ false → (a && b && c) ≡ false
-and-no a b c e = ap (λ (x : Bool). x && c) e
+  msb-is : msbOf (modulus (s .limits)) prevNow (headOf r .lsb) ≡ msb s (fieldsOf r)
+  unfolding msb fieldsOf
+  msb-is = ap (λ (q : Prev). msbOf (modulus (s .limits)) q (headOf r .lsb)) (sym prev-is)
 
-pub poc-outside : (s : Session) (r : List ℕ) → (in32 (msb (view s) (fieldsOf r)) && in32 (poc (view s) (fieldsOf r))) ≡ false → within (view s) (fieldsOf r) ≡ false
-unfolding within
-poc-outside s r e = and-no (in32 (msb (view s) (fieldsOf r))) (in32 (poc (view s) (fieldsOf r))) (wishesIn32 (wishes (view s) (fieldsOf r))) e
+  poc-is : pocOf (modulus (s .limits)) prevNow (headOf r .lsb) ≡ poc s (fieldsOf r)
+  unfolding poc fieldsOf
+  poc-is = ap (λ (q : Prev). pocOf (modulus (s .limits)) q (headOf r .lsb)) (sym prev-is)
+
+  poc-outside : (in32 (msb s (fieldsOf r)) && in32 (poc s (fieldsOf r))) ≡ false → within s (fieldsOf r) ≡ false
+  unfolding within
+  poc-outside e = ap (λ (x : Bool). x && wishesIn32 (wishes s (fieldsOf r))) e
 
 -- ---- step 3
 
 module _ (r : List ℕ) where
-  counts : entriesOf (fieldsOf r) ≡ u8 r 13 + u8 r 14 + u8 r 15
-  unfolding fieldsOf
-  counts = rw (table-length (shortAt r 16) (u8 r 13), table-length (shortAt r (16 + 5 * u8 r 13)) (u8 r 14), table-length (longAt r (16 + 5 * (u8 r 13 + u8 r 14))) (u8 r 15))
+  few-head : (M : ℕ) → beginRanges M (fieldsOf r) ≡ true → headOf r .neg + headOf r .pos + headOf r .lt ≤ 16
+  few-head M e = omega (arith, entries-are r, few-entries M (fieldsOf r) e)
 
-  pub few-head : (M : ℕ) → beginRanges M (fieldsOf r) ≡ true → headOf r .neg + headOf r .pos + headOf r .lt ≤ 16
-  few-head M e = omega (arith, counts, few-entries M (fieldsOf r) e)
-
-  module _ (M : ℕ) (p : ℤ) where
-    neg-long : length (wishesOf M p (fieldsOf r) .neg) ≡ headOf r .neg
-    unfolding wishesOf fieldsOf
-    neg-long = length-map (table (shortAt r 16) (u8 r 13)) _ ∙ table-length (shortAt r 16) (u8 r 13)
-
-    pos-long : length (wishesOf M p (fieldsOf r) .pos) ≡ headOf r .pos
-    unfolding wishesOf fieldsOf
-    pos-long = length-map (table (shortAt r (16 + 5 * u8 r 13)) (u8 r 14)) _ ∙ table-length (shortAt r (16 + 5 * u8 r 13)) (u8 r 14)
-
-    lt-long : length (wishesOf M p (fieldsOf r) .lt) ≡ headOf r .lt
-    unfolding wishesOf fieldsOf
-    lt-long = length-map (table (longAt r (16 + 5 * (u8 r 13 + u8 r 14))) (u8 r 15)) _ ∙ table-length (longAt r (16 + 5 * (u8 r 13 + u8 r 14))) (u8 r 15)
-
-three : {a a′ b b′ c c′ : List Wish} → a ≡ a′ → b ≡ b′ → c ≡ c′ → _≡_ {A = Wishes} (record { neg = a; pos = b; lt = c }) (record { neg = a′; pos = b′; lt = c′ })
-three p q o = λ i. record { neg = p i; pos = q i; lt = o i }
-
-pub wishes-back : (r : List ℕ) (M : ℕ) (p : ℤ) (w : Wanting) → HoldsWishes w (wishesOf M p (fieldsOf r)) → w .inside ≡ true → wishesIn (wantedFrom (headOf r) w) ≡ wishesOf M p (fieldsOf r)
-wishes-back r M p w h e =
-    let k = h .items e in
-    let x = wishesOf M p (fieldsOf r) in
-    let z = replicate (16 - length (x .neg ++ (x .pos ++ x .lt))) noWish in
-    three
-    (rw (k .places, ← neg-long r M p) (first-part (x .neg) (x .pos ++ x .lt) z))
-    (rw (k .places, ← neg-long r M p, ← pos-long r M p) (second-of-three (x .neg) (x .pos) (x .lt) z))
-    (rw (k .places, ← neg-long r M p, ← pos-long r M p, ← lt-long r M p) (third-of-three (x .neg) (x .pos) (x .lt) z))
+pub few-of : {s : Session} {r : List ℕ} {h : Head} {t : Start} → Placed s r h t → h .neg + h .pos + h .lt ≤ 16
+few-of {s} {r} p = subst (λ (x : Head). x .neg + x .pos + x .lt ≤ 16) (sym (p .head)) (few-head r (modulus (s .limits)) (p .passed .ranges))
 
 -- ---- the reply: the members of the sets in the paper's order
 
-pub few-members : {x : Sets} {y : FiveSets} → HoldsSets x y → FewMembers x
-few-members h = record { refs = h .refs .items .room; rest = h .rest .items .room }
+pub few-members : {us vs : List ℕ} {x : Sizes} {y : Sets} → HoldsSets us vs x y → FewMembers x
+few-members h = record { all = h .few }
 
 abbrev num : Serial → ℕ
 num n = n .0
 
-pub members-are : {x : Sets} {y : FiveSets} → HoldsSets x y → memberBytes x ≡ words (serialNos (inOrder y))
-unfolding refsIn
-members-are {x} {y} h =
-    let q = refs-are h in
-    let t = rest-are (h .rest) in
-    let b : take (x .refs .before) (x .refs .items) ≡ y .before = ap (λ (z : _). z .before) q in
-    let a : take (x .refs .after) (drop (x .refs .before) (x .refs .items)) ≡ y .after = ap (λ (z : _). z .after) q in
-    let l : take (x .refs .long) (drop (x .refs .before + x .refs .after) (x .refs .items)) ≡ y .ltCurr = ap (λ (z : _). z .ltCurr) q in
-    let ba : take (x .refs .before + x .refs .after) (x .refs .items) ≡ y .before ++ y .after = take-add (x .refs .before) (x .refs .after) (x .refs .items) ∙ rw (b, a) in
-    rw (ba, l, t .0, t .1)
+-- the numbers of a run that begins with two lists
+run-parts : (xs : List ℕ) (n m : ℕ) (a b : List Serial) → serialsIn xs (n + m) ≡ a ++ b → n ≡ length a → (numbersFrom xs 0 n ≡ serialNos a) × (numbersFrom xs n m ≡ serialNos b)
+run-parts xs n m a b e l =
+    let w : table (word xs) n ++ numbersFrom xs n m ≡ serialNos a ++ serialNos b =
+    sym (table-join (word xs) n m) ∙ sym (table-map num (serialAt xs) (n + m)) ∙ ap serialNos e ∙ map-append num a b
+    in
+    let k = apart w (table-length (word xs) n ∙ l ∙ sym (length-map a num)) in
+    let z : (i : ℕ) → 0 + i ≡ i = λ i. omega arith in
+    (table-same (λ (i : ℕ). word xs (0 + i)) (word xs) n (λ i h. ap (word xs) (z i)) ∙ k .0, k .1)
+
+members-are : {us vs : List ℕ} {x : Sizes} {y : Sets} → HoldsSets us vs x y → memberBytes x us vs ≡ words (serialNos (inOrder y))
+members-are {us} {vs} {x} {y} h =
+    let n : x .before + x .after ≡ length (y .before ++ y .after) = omega (arith, length-append (y .before) (y .after), h .before, h .after) in
+    let u = run-parts us (x .before + x .after) (x .long) (y .before ++ y .after) (y .ltCurr) (h .first ∙ sym (append-assoc (y .before) (y .after) (y .ltCurr))) n in
+    let v = run-parts vs (x .foll) (x .«lt_foll») (y .foll) (y .ltFoll) (h .second) (h .foll) in
+    rw (u .0, u .1, v .0, v .1)
     (sym (words-join num (y .before ++ y .after ++ y .foll ++ y .ltCurr) (y .ltFoll)
     ∙ ap (λ (z : List ℕ). z ++ words (serialNos (y .ltFoll))) (words-join num (y .before ++ y .after ++ y .foll) (y .ltCurr)
     ∙ ap (λ (z : List ℕ). z ++ words (serialNos (y .ltCurr))) (words-join num (y .before ++ y .after) (y .foll)))))
 
+refs-held : {us vs : List ℕ} {x : Sizes} {y : Sets} → length us ≡ 16 → HoldsSets us vs x y → refsIn us (refsFrom x) ≡ refsOf y
+refs-held {us} {vs} {x} {y} l h = refs-are us (refsFrom x) (y .before) (y .after) (y .ltCurr) (omega (arith, h .few)) (h .first) (h .before) (h .after) (h .long)
+
 -- ---- what the stages of the code are in the paper's words
 
 record FlagsAre (s : Session) (r : List ℕ) (t : Start) : Type 0 where
-  rasl : t .flags .rasl ≡ noRasl (view s) (fieldsOf r)
-  output : t .flags .output ≡ outputFlag (view s) (fieldsOf r)
+  rasl : t .flags .rasl ≡ noRasl s (fieldsOf r)
+  output : t .flags .output ≡ outputFlag s (fieldsOf r)
   valid : t .flags .valid ≡ validPrev (fieldsOf r .nal) (fieldsOf r .tid)
-  prior : t .flags .prior ≡ noPrior (view s) (fieldsOf r)
-  over : t .flags .over ≡ startsOver (view s) (fieldsOf r)
+  prior : t .flags .prior ≡ noPrior s (fieldsOf r)
+  over : t .flags .over ≡ startsOver s (fieldsOf r)
 
 flags-are : (s : Session) (r : List ℕ) (h : Head) (t : Start) → Placed s r h t → FlagsAre s r t
 unfolding noRasl outputFlag noPrior fieldsOf
 flags-are s r h t p =
-    let e : t .flags ≡ flagsFrom (s .start) (s .ended) (headOf r) = p .flags ∙ ap (flagsFrom (s .start) (s .ended)) (p .head) in
+    let e : t .flags ≡ flagsFrom (s .atStart) (s .ended) (headOf r) = p .flags ∙ ap (flagsFrom (s .atStart) (s .ended)) (p .head) in
     record {
       rasl = ap (λ (x : Flags). x .rasl) e;
       output = ap (λ (x : Flags). x .output) e;
@@ -187,189 +165,194 @@ flags-are s r h t p =
       over = ap (λ (x : Flags). x .over) e;
     }
 
-module _ (s : Session) (r : List ℕ) (h : Head) (t : Start) (w : Wanted16) (q : Wished s r h t w) where
+module _ (s : Session) (r : List ℕ) (h : Head) (t : Start) (ps : List ℤ) (hs : List ℕ) (q : Wished s r h t ps hs) where
   abbrev M : ℕ
-  M = 2 ^ (min (s .limits .k) 16)
-
-  abbrev u : P.Session
-  u = view s
+  M = modulus (s .limits)
 
   abbrev g : Fields
   g = fieldsOf r
 
+  abbrev asked : Wishes
+  asked = wishesIn ps hs (h .neg) (h .pos) (h .lt)
+
+  abbrev old : List Picture
+  old = unmarkedIf (t .flags .over) (s .store)
+
   same-flags : FlagsAre s r t
   same-flags = flags-are s r h t (q .placed)
 
-  abbrev old : List Picture
-  old = unmarkedIf (t .flags .over) (u .store)
-
-  marks-are : marksOf M old (wishesIn w) ≡ markedStore u g
+  marks-are : marksOf M old asked ≡ markedStore s g
   unfolding markedStore
-  marks-are = ap (λ (b : Bool). marksOf M (unmarkedIf b (u .store)) (wishesIn w)) (same-flags .over) ∙ ap (marksOf M (unmarkedStore u g)) (q .wishes)
+  marks-are = ap (λ (b : Bool). marksOf M (unmarkedIf b (s .store)) asked) (same-flags .over) ∙ ap (marksOf M (unmarkedStore s g)) (q .wishes)
 
-  sets-are : setsOf M old (wishesIn w) ≡ sets u g
-  sets-are = ap (λ (b : Bool). setsOf M (unmarkedIf b (u .store)) (wishesIn w)) (same-flags .over) ∙ ap (setsOf M (unmarkedStore u g)) (q .wishes)
+  sets-are : setsOf M old asked ≡ sets s g
+  sets-are = ap (λ (b : Bool). setsOf M (unmarkedIf b (s .store)) asked) (same-flags .over) ∙ ap (setsOf M (unmarkedStore s g)) (q .wishes)
 
-  room-is : (ps : List Picture) → ps ≡ markedStore u g → beforeDecoding (t .flags .over && not (s .ended)) (t .flags .prior) (s .limits) ps ≡ roomMade u g
+  room-is : (qs : List Picture) → qs ≡ marksOf M old asked → beforeDecoding (t .flags .over && not (s .ended)) (t .flags .prior) (s .limits) qs ≡ roomMade s g
   unfolding roomMade
-  room-is ps e =
-      ap (λ (x : List Picture). beforeDecoding (t .flags .over && not (s .ended)) (t .flags .prior) (s .limits) x) e
-      ∙ ap (λ (b : Bool). beforeDecoding (b && not (s .ended)) (t .flags .prior) (s .limits) (markedStore u g)) (same-flags .over)
-      ∙ ap (λ (b : Bool). beforeDecoding (startsOver u g && not (s .ended)) b (s .limits) (markedStore u g)) (same-flags .prior)
+  room-is qs e =
+      ap (λ (x : List Picture). beforeDecoding (t .flags .over && not (s .ended)) (t .flags .prior) (s .limits) x) (e ∙ marks-are)
+      ∙ ap (λ (b : Bool). beforeDecoding (b && not (s .ended)) (t .flags .prior) (s .limits) (markedStore s g)) (same-flags .over)
+      ∙ ap (λ (b : Bool). beforeDecoding (startsOver s g && not (s .ended)) b (s .limits) (markedStore s g)) (same-flags .prior)
 
-  current-is : currentFrom (s .next) h t ≡ begunCurrent u g
+  current-is : currentFrom (s .next) h t ≡ begunCurrent s g
   unfolding begunCurrent fieldsOf
   current-is =
       let k = q .placed in
       ap (λ (x : Head). currentFrom (s .next) x t) (k .head)
       ∙ (λ i. record { serial = aSerial (s .next); surface = headOf r .surface; poc = k .poc i; lsb = headOf r .lsb; msb = k .msb i; output = same-flags .output i; valid = same-flags .valid i })
 
-  abbrev told : Told
-  told = record { poc = t .poc; flags = flagsNumber (t .flags); serial = aSerial (s .next) }
-
-  told-is : toldBytes told ≡ toldBytes (record { poc = poc u g; flags = flagsByte (begunOf u g); serial = aSerial (s .next) })
+  told-is : toldBytes (toldFrom (s .next) t) ≡ toldBytes (record { poc = poc s g; flags = flagsByte (begunOf s g); serial = aSerial (s .next) })
   told-is =
       let k = same-flags in
       λ i. toldBytes (record { poc = q .placed .poc i; flags = flagAt 0 (k .rasl i) + flagAt 1 (k .output i) + flagAt 2 (k .valid i) + flagAt 3 (k .prior i); serial = aSerial (s .next) })
 
-  begun-bytes : (x : Sets) → HoldsSets x (sets u g) → begunPart told x ≡ begunBytes (begunOf u g)
+  begun-bytes : {us vs : List ℕ} (x : Sizes) → HoldsSets us vs x (sets s g) → begunPart (toldFrom (s .next) t) x us vs ≡ begunBytes (begunOf s g)
   unfolding begunBytes
-  begun-bytes x k =
-      let a = k .refs in
-      let b = k .rest in
-      λ i. told-is i ++ (a .before i ∷ a .after i ∷ b .foll i ∷ a .long i ∷ b .ltFoll i ∷ []) ++ members-are k i
+  begun-bytes x k = λ i. told-is i ++ (k .before i ∷ k .after i ∷ k .foll i ∷ k .long i ∷ k .ltFoll i ∷ []) ++ members-are k i
 
-  module _ (d : Derived) (o : Outcome) (hd : HoldsDerived d (marksOf M old (wishesIn w)) (setsOf M old (wishesIn w)))
-      (ho : HoldsMoved o (beforeDecoding (t .flags .over && not (s .ended)) (t .flags .prior) (s .limits) (S.view (d .store)))) where
-    held : HoldsMoved o (roomMade u g)
-    held = subst (HoldsMoved o) (room-is (S.view (d .store)) (is-view (hd .store) ∙ marks-are)) ho
+  next-is : cond (eqb (s .next) 4294967295) 0 (s .next + 1) ≡ s .next + 1
+  next-is = ap (λ (y : Bool). cond y 0 (s .next + 1)) (q .placed .passed .roomy)
 
-    sets-held : HoldsSets (d .sets) (sets u g)
-    sets-held = subst (HoldsSets (d .sets)) sets-are (hd .sets)
+-- ---- step 5 and the reply
 
-    abbrev after : Session
-    after =
-        record {
-          configured = s .configured;
-          limits = s .limits;
-          store = o .store;
-          current = Now.Is (currentFrom (s .next) h t);
-          refs = d .sets .refs;
-          prev = s .prev;
-          start = false;
-          ended = false;
-          next = s .next + 1;
-        }
+pub tells : (h us vs p : List ℕ) (t : Start) (x : Sizes) {l : Limits} {b : Bool} {y : Told} {p′ hs ts rs : List ℕ} {c : Tally} {before : List ℕ} {a : Answer} {after : List ℕ}
+    → l ≡ limitsAt h → b ≡ flagOf (word h 2) → y ≡ toldFrom (word h 3) t → Leaves (beforeDecoding (t .flags .over && not b) (t .flags .prior) l (stored p)) p′ hs ts rs c
+    → Says (framed 258 0 (begunPart y x us vs ++ tailBytes (tailIn hs ts rs c))) before a after → Tells h us vs p t x before a p′ after
+tells h us vs p t x {l} {b} {y} {p′} {hs} {ts} {rs} {c} {before} {a} {after} el eb ey k w =
+    let m : beforeDecoding (t .flags .over && not b) (t .flags .prior) l (stored p) ≡ beforeDecoding (t .flags .over && not (flagOf (word h 2))) (t .flags .prior) (limitsAt h) (stored p) =
+    λ i. beforeDecoding (t .flags .over && not (eb i)) (t .flags .prior) (el i) (stored p)
+    in
+    let e : tailIn hs ts rs c ≡ beforeDecoding (t .flags .over && not (flagOf (word h 2))) (t .flags .prior) (limitsAt h) (stored p) .tail = k .tail ∙ ap (λ (z : Moved). z .tail) m in
+    record {
+      pics = k .pics ∙ ap (λ (z : Moved). z .pics) m;
+      says = subst (λ (z : List ℕ). Says (framed 258 0 z) before a after) (λ i. begunPart (ey i) x us vs ++ tailBytes (e i)) w;
+    }
 
-    next-is : after ≡ nextOf s 2 (begunSession u g)
-    next-is =
-        λ i.
-        record {
-          configured = s .configured;
-          limits = s .limits;
-          store = packed-is (held .store) i;
-          current = Now.Is (current-is i);
-          refs = refs-packed (sets-held .refs) i;
-          prev = s .prev;
-          start = false;
-          ended = false;
-          next = s .next + 1;
-        }
+-- ---- a begin that nothing refuses, from what its parts did: the marks and the sets, then the room and the reply, then the words beside the store
 
-    body-is : begunPart told (d .sets) ++ tailBytes (movedIn o .tail) ≡ begunBytes (begunOf u g) ++ tailBytes (roomMade u g .tail)
-    body-is = λ i. begun-bytes (d .sets) sets-held i ++ tailBytes (moved-is held i .tail)
+module _ (m : Memory) (r : List ℕ) (h : Head) (t : Start) (ps : List ℤ) (hs : List ℕ) (q : Wished (sessionIn m) r h t ps hs)
+    {l : Limits} {p us vs : List ℕ} {x : Sizes} (el : l ≡ limitsAt (m .head)) (d : Derives (modulus l) (unmarkedIf (t .flags .over) (stored (m .places))) (wishesIn ps hs (h .neg) (h .pos) (h .lt)) p us vs x)
+    {before : List ℕ} {a : Answer} {p′ after : List ℕ} (w : Tells (m .head) us vs p t x before a p′ after) (n : length us ≡ 16) where
+  abbrev s : Session
+  s = sessionIn m
 
-    pub begun-says : (x : Told) (n : Session) (len : ℕ) (before written : List ℕ) → x ≡ told → n ≡ after
-        → len ≡ length (framed 258 0 (begunPart x (d .sets) ++ tailBytes (movedIn o .tail)))
-        → written ≡ over (framed 258 0 (begunPart x (d .sets) ++ tailBytes (movedIn o .tail))) before
-        → Says s 2 (beginOf u g) before (record { number = 0; len = len; next = n }) written
-    unfolding bytesOf
-    begun-says x n len before written ex en l b =
-        let y : begunPart x (d .sets) ++ tailBytes (movedIn o .tail) ≡ begunBytes (begunOf u g) ++ tailBytes (roomMade u g .tail) = ap (λ (z : Told). begunPart z (d .sets) ++ tailBytes (movedIn o .tail)) ex ∙ body-is in
-        as-decided (inside s r (q .placed .passed) (q .within))
-        (record {
-          answer = λ i. record { number = 0; len = (l ∙ ap (λ (z : List ℕ). length (framed 258 0 z)) y) i; next = (en ∙ next-is) i };
-          bytes = b ∙ ap (λ (z : List ℕ). over (framed 258 0 z) before) y;
-        })
+  abbrev fs : Fields
+  fs = fieldsOf r
 
-    -- the session after it, from its parts
-    pub after-is : {c : Current} {m : ℕ} → c ≡ currentFrom (s .next) h t → m ≡ cond (eqb (s .next) 4294967295) 0 (s .next + 1)
-        → record { configured = s .configured; limits = s .limits; store = o .store; current = Now.Is c; refs = d .sets .refs; prev = s .prev; start = false; ended = false; next = m } ≡ after
-    after-is e k =
-        let z : cond (eqb (s .next) 4294967295) 0 (s .next + 1) ≡ s .next + 1 = ap (λ (y : Bool). cond y 0 (s .next + 1)) (q .placed .passed .roomy) in
-        λ i. record { configured = s .configured; limits = s .limits; store = o .store; current = Now.Is (e i); refs = d .sets .refs; prev = s .prev; start = false; ended = false; next = (k ∙ z) i }
+  derived : Derives (modulus (limitsAt (m .head))) (unmarkedIf (t .flags .over) (stored (m .places))) (wishesIn ps hs (h .neg) (h .pos) (h .lt)) p us vs x
+  derived = subst (λ (z : Limits). Derives (modulus z) (unmarkedIf (t .flags .over) (stored (m .places))) (wishesIn ps hs (h .neg) (h .pos) (h .lt)) p us vs x) el d
+
+  room-made : beforeDecoding (t .flags .over && not (flagOf (word (m .head) 2))) (t .flags .prior) (limitsAt (m .head)) (stored p) ≡ roomMade s fs
+  unfolding frontIn
+  room-made = room-is s r h t ps hs q (stored p) (derived .pics)
+
+  sets-held : HoldsSets us vs x (sets s fs)
+  unfolding frontIn
+  sets-held = subst (HoldsSets us vs x) (sets-are s r h t ps hs q) (derived .sets)
+
+  body-is : begunPart (toldFrom (word (m .head) 3) t) x us vs ++ tailBytes (beforeDecoding (t .flags .over && not (flagOf (word (m .head) 2))) (t .flags .prior) (limitsAt (m .head)) (stored p) .tail)
+      ≡ begunBytes (begunOf s fs) ++ tailBytes (roomMade s fs .tail)
+  unfolding frontIn
+  body-is = λ i. begun-bytes s r h t ps hs q x sets-held i ++ tailBytes (room-made i .tail)
+
+  answers-are : Answers (begun s fs) before a after
+  unfolding bytesOf
+  answers-are =
+      record {
+        answer = w .says .answer ∙ (λ i. record { number = 0; len = length (framed 258 0 (body-is i)) });
+        bytes = w .says .bytes ∙ (λ i. over (framed 258 0 (body-is i)) before);
+      }
+
+  next-session : sessionOf (begunFront (frontIn (m .head)) (currentFrom (word (m .head) 3) h t) (refsFrom x) (cond (eqb (word (m .head) 3) 4294967295) 0 (word (m .head) 3 + 1))) us p′ ≡ begunSession s fs
+  unfolding frontIn
+  next-session =
+      λ i.
+      record {
+        configured = s .configured;
+        limits = s .limits;
+        store = (w .pics ∙ ap (λ (y : Moved). y .pics) room-made) i;
+        current = Now.Is (current-is s r h t ps hs q i);
+        refs = refs-held n sets-held i;
+        prev = s .prev;
+        atStart = false;
+        ended = false;
+        next = next-is s r h t ps hs q i;
+      }
+
+  pub begun-does : {h′ : List ℕ} {c : Current} {y : Refs} {k : ℕ} → frontIn h′ ≡ begunFront (frontIn (m .head)) c y k → c ≡ currentFrom (word (m .head) 3) h t → y ≡ refsFrom x
+      → k ≡ cond (eqb (word (m .head) 3) 4294967295) 0 (word (m .head) 3 + 1) → Does m (beginOf s fs) before a (memory h′ us p′) after
+  begun-does e ec ey ek =
+      as-decided (inside s r (q .placed .passed) (q .within))
+      (record {
+        answers = answers-are;
+        next = ap (λ (f : Front). sessionOf f us p′) (e ∙ (λ i. begunFront (frontIn (m .head)) (ec i) (ey i) (ek i))) ∙ next-session;
+        left = λ z. absurd (z refl);
+      })
 
 -- ---- the stages' own facts
 
-pub at-most : (b : Bool) (n : ℕ) → cond b n 0 ≤ n
-at-most true n = omega arith
-at-most false n = omega arith
-
-pub few-of : {h k : Head} → h ≡ k → k .neg + k .pos + k .lt ≤ 16 → h .neg + h .pos + h .lt ≤ 16
-few-of e l = subst (λ (x : Head). x .neg + x .pos + x .lt ≤ 16) (sym e) l
-
-last-no : (a b : Bool) → b ≡ false → (a && b) ≡ false
-last-no true b e = e
-last-no false b e = refl
-
-wishes-of : (s : Session) (r : List ℕ) (t : Start) {w : Wanting} → t .poc ≡ poc (view s) (fieldsOf r) → HoldsWishes w (wishesOf (2 ^ (min (s .limits .k) 16)) (t .poc) (fieldsOf r)) → HoldsWishes w (wishes (view s) (fieldsOf r))
-wishes-of s r t {w} e h = subst (λ (p : ℤ). HoldsWishes w (wishesOf (2 ^ (min (s .limits .k) 16)) p (fieldsOf r))) e h
-
-pub wishes-outside : (s : Session) (r : List ℕ) (t : Start) {w : Wanting} → t .poc ≡ poc (view s) (fieldsOf r) → HoldsWishes w (wishesOf (2 ^ (min (s .limits .k) 16)) (t .poc) (fieldsOf r)) → not (w .inside) ≡ true → within (view s) (fieldsOf r) ≡ false
-unfolding within
-wishes-outside s r t {w} e h n =
-    last-no (in32 (msb (view s) (fieldsOf r)) && in32 (poc (view s) (fieldsOf r))) (wishesIn32 (wishes (view s) (fieldsOf r))) (sym (wishes-of s r t e h .inside) ∙ not-true (w .inside) n)
-
-pub wished : (s : Session) (r : List ℕ) (h : Head) (t : Start) {w : Wanting} {x : Wanted16} → Placed s r h t → HoldsWishes w (wishesOf (2 ^ (min (s .limits .k) 16)) (t .poc) (fieldsOf r)) → not (w .inside) ≡ false → x ≡ wantedFrom h w → Wished s r h t x
-unfolding within
-wished s r h t {w} {x} p k n e =
-    let i = not-false (w .inside) n in
-    let q = wishes-of s r t (p .poc) k in
-    let y : x ≡ wantedFrom (headOf r) w = e ∙ ap (λ (z : Head). wantedFrom z w) (p .head) in
-    let m : (in32 (msb (view s) (fieldsOf r)) && in32 (poc (view s) (fieldsOf r))) ≡ true = ap (λ (z : ℤ). in32 z && in32 (poc (view s) (fieldsOf r))) (sym (p .msb)) ∙ ap (λ (z : ℤ). in32 (t .msb) && in32 z) (sym (p .poc)) ∙ p .inside in
-    record {
-      placed = p;
-      within = rw m (sym (q .inside) ∙ i);
-      few = subst Few (sym y) (record { few = few-head r _ (p .passed .ranges) });
-      wishes = ap wishesIn y ∙ wishes-back r (2 ^ (min (s .limits .k) 16)) (poc (view s) (fieldsOf r)) w q i;
-    }
+pub is-now : (h : List ℕ) → isCurrent (nowAt h) ≡ flagOf (word h 12)
+is-now h = go (flagOf (word h 12))
+  where
+    go : (b : Bool) → isCurrent (cond b (Now.Is (currentAt h)) Now.Idle) ≡ b
+    go true = refl
+    go false = refl
 
 pub fits-back : (z : ℤ) → in32 z ≡ true → toZ w32 (ofZ w32 z) ≡ z
 fits-back z e = toZ-ofZ (record { sfits = ltb-true (mag z) (2 ^ 31) e })
 
--- the POC that was derived is the paper's, or outside as the paper's is
-module _ (s : Session) (r : List ℕ) {h : Head} {k : Flags} {q : Prev} {x : Poc} (e1 : h ≡ headOf r) (e2 : k ≡ flagsFrom (s .start) (s .ended) h) (e3 : q ≡ prevFrom (k .over) (s .prev))
-    (e4 : x ≡ pocAnswer (2 ^ (min (s .limits .k) 16)) q (h .lsb)) where
-  answer-is : x ≡ pocAnswer (2 ^ (min (s .limits .k) 16)) (prevFrom (flagsFrom (s .start) (s .ended) (headOf r) .over) (s .prev)) (headOf r .lsb)
-  answer-is =
-      let f : k ≡ flagsFrom (s .start) (s .ended) (headOf r) = e2 ∙ ap (flagsFrom (s .start) (s .ended)) e1 in
-      e4 ∙ ap (λ (y : Prev). pocAnswer (2 ^ (min (s .limits .k) 16)) y (h .lsb)) (e3 ∙ ap (λ (y : Flags). prevFrom (y .over) (s .prev)) f)
-      ∙ ap (λ (y : Head). pocAnswer (2 ^ (min (s .limits .k) 16)) (prevFrom (flagsFrom (s .start) (s .ended) (headOf r) .over) (s .prev)) (y .lsb)) e1
+-- the wishes that were read are the paper's, or one is outside as the paper's is
+module _ (s : Session) (r : List ℕ) (h : Head) (t : Start) (p : Placed s r h t) {l : Limits} {b : Bool} {ps : List ℤ} {hs : List ℕ} (el : l ≡ s .limits)
+    (k : HoldsWishes (wishesOf (modulus l) (toZ w32 (ofZ w32 (t .poc))) (fieldsOf r)) (h .neg) (h .pos) (h .lt) b ps hs) where
+  asked-is : HoldsWishes (wishes s (fieldsOf r)) (h .neg) (h .pos) (h .lt) b ps hs
+  asked-is =
+      let z : toZ w32 (ofZ w32 (t .poc)) ≡ poc s (fieldsOf r) = fits-back (t .poc) (right (in32 (t .msb)) (in32 (t .poc)) (p .inside)) ∙ p .poc in
+      subst (λ (w : Wishes). HoldsWishes w (h .neg) (h .pos) (h .lt) b ps hs) (λ i. wishesOf (modulus (el i)) (z i) (fieldsOf r)) k
 
-  pub no-poc : x ≡ A.Outside → within (view s) (fieldsOf r) ≡ false
-  no-poc e =
-      let o = poc-out (2 ^ (min (s .limits .k) 16)) (prevFrom (flagsFrom (s .start) (s .ended) (headOf r) .over) (s .prev)) (headOf r .lsb) (sym answer-is ∙ e) in
-      poc-outside s r (ap (λ (y : ℤ). in32 y && in32 (poc (view s) (fieldsOf r))) (sym (msb-is s r)) ∙ ap (λ (y : ℤ). in32 (msbOf (modulus (s .limits)) (prevFrom (flagsFrom (s .start) (s .ended) (headOf r) .over) (s .prev)) (headOf r .lsb)) && in32 y) (sym (poc-is s r)) ∙ o)
+  within-is : within s (fieldsOf r) ≡ b
+  unfolding within
+  within-is =
+      let m : (in32 (msb s (fieldsOf r)) && in32 (poc s (fieldsOf r))) ≡ true = sym (λ i. in32 (p .msb i) && in32 (p .poc i)) ∙ p .inside in
+      rw m (sym (asked-is .inside))
+
+  pub wishes-outside : not b ≡ true → within s (fieldsOf r) ≡ false
+  wishes-outside n = within-is ∙ not-true b n
+
+  pub wished : not b ≡ false → Wished s r h t ps hs
+  wished n = record { placed = p; within = within-is ∙ not-false b n; few = few-of p; wishes = asked-is .items (not-false b n) }
+
+-- what steps 1 and 2 read and computed
+pub record Counted (s : Session) (r : List ℕ) (h : Head) (k : Flags) (x : Poc) : Type 0 where
+  pub head : h ≡ headOf r
+  pub flags : k ≡ flagsFrom (s .atStart) (s .ended) h
+  pub poc : x ≡ pocAnswer (modulus (s .limits)) (prevFrom (k .over) (s .prev)) (h .lsb)
+
+-- the POC that was derived is the paper's, or outside as the paper's is
+module _ {s : Session} {r : List ℕ} {h : Head} {k : Flags} {x : Poc} (o : Counted s r h k x) where
+  answer-is : x ≡ pocAnswer (modulus (s .limits)) (prevNow s r) (headOf r .lsb)
+  answer-is =
+      let f : k ≡ flagsNow s r = o .flags ∙ ap (flagsFrom (s .atStart) (s .ended)) (o .head) in
+      o .poc ∙ (λ i. pocAnswer (modulus (s .limits)) (prevFrom (f i .over) (s .prev)) (o .head i .lsb))
+
+  pub no-poc : x ≡ A.Outside → within s (fieldsOf r) ≡ false
+  no-poc e = poc-outside s r (sym (λ i. in32 (msb-is s r i) && in32 (poc-is s r i)) ∙ poc-out (modulus (s .limits)) (prevNow s r) (headOf r .lsb) (sym answer-is ∙ e))
 
   placed-at : (m p : ℤ) → Passed s r → x ≡ A.Val m p → Placed s r h (record { flags = k; msb = m; poc = p })
   placed-at m p w e =
-      let o = poc-val (2 ^ (min (s .limits .k) 16)) (prevFrom (flagsFrom (s .start) (s .ended) (headOf r) .over) (s .prev)) (headOf r .lsb) m p (sym answer-is ∙ e) in
+      let v = poc-val (modulus (s .limits)) (prevNow s r) (headOf r .lsb) m p (sym answer-is ∙ e) in
       record {
         passed = w;
-        head = e1;
-        flags = e2;
-        msb = o .0 ∙ msb-is s r;
-        poc = o .1 ∙ poc-is s r;
-        inside = ap (λ (y : ℤ). in32 y && in32 p) (o .0) ∙ ap (λ (y : ℤ). in32 (msbOf (2 ^ (min (s .limits .k) 16)) (prevFrom (flagsFrom (s .start) (s .ended) (headOf r) .over) (s .prev)) (headOf r .lsb)) && in32 y) (o .1) ∙ o .2;
+        head = o .head;
+        flags = o .flags;
+        msb = v .0 ∙ msb-is s r;
+        poc = v .1 ∙ poc-is s r;
+        inside = (λ i. in32 (v .0 i) && in32 (v .1 i)) ∙ v .2;
       }
 
   -- as the code passes them on
   pub placed : (m p : ℤ) → Passed s r → x ≡ A.Val m p → Placed s r h (record { flags = k; msb = toZ w32 (ofZ w32 m); poc = toZ w32 (ofZ w32 p) })
   placed m p w e =
-      let o = placed-at m p w e in
-      subst (λ (y : ℤ). Placed s r h (record { flags = k; msb = y; poc = toZ w32 (ofZ w32 p) })) (sym (fits-back m (left (in32 m) (in32 p) (o .inside))))
-      (subst (λ (y : ℤ). Placed s r h (record { flags = k; msb = m; poc = y })) (sym (fits-back p (right (in32 m) (in32 p) (o .inside)))) o)
-
--- what the reply tells of the picture, as the code made it
-pub told-of : (t : Start) (n : ℕ) {z : ℤ} {b : ℕ} → z ≡ t .poc → b ≡ flagsNumber (t .flags) → _≡_ {A = Told} (record { poc = z; flags = b; serial = aSerial n }) (record { poc = t .poc; flags = flagsNumber (t .flags); serial = aSerial n })
-told-of t n p q = λ i. record { poc = p i; flags = q i; serial = aSerial n }
+      let v = placed-at m p w e in
+      subst (λ (y : ℤ). Placed s r h (record { flags = k; msb = y; poc = toZ w32 (ofZ w32 p) })) (sym (fits-back m (left (in32 m) (in32 p) (v .inside))))
+      (subst (λ (y : ℤ). Placed s r h (record { flags = k; msb = m; poc = y })) (sym (fits-back p (right (in32 m) (in32 p) (v .inside)))) v)

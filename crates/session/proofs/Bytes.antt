@@ -1,36 +1,34 @@
 -- The bytes of a reply: runs of entries one after the other, the head that is written last, and the room of a tail and of the sets.
-use Prim.Native.Nat.{ℕ, _+_, _*_, _-_, _≤_, _<_}
-use mathlib.Core.Path.{_≡_, refl, sym, ap, _∙_}
+use Prim.Native.Nat.{ℕ, _+_, _*_, _-_, _≤_}
+use mathlib.Core.Path.{_≡_, refl, sym, ap, ap₂, _∙_}
 use mathlib.Core.Bool.{false}
-use mathlib.Core.List.{List, [], _∷_, _++_, map, map-append}
+use mathlib.Core.List.{List, [], _∷_, _++_, map, map-append, append-nil}
+use native.Mathlib.Nat.{zero-add}
 use native.Mathlib.Omega.{arith}
 use lib.Dec.{eqb}
-use lib.ListN.{length, getD, take, drop, length-append, length-drop, length-take}
-use lib.Seq.{sets, length-take-le, getD-drop}
-use Rattle.arrays.specs.Pad.{used, Padded}
-use Rattle.paper.specs.Words.{flat}
+use lib.ListN.{length, getD, length-append}
+use lib.Seq.{sets}
+use Rattle.paper.specs.Words.{flat, table}
 use Rattle.paper.specs.declared.Serial.{Serial}
-use Rattle.paper.specs.declared.Shown.{Shown}
 use Rattle.paper.specs.declared.Surface.{Surface}
+use Rattle.paper.specs.declared.Shown.{Shown}
 use Rattle.paper.specs.Numbers.{bytes16, bytes32, serialNos, surfaceNos}
 use Rattle.paper.specs.Replies.{shownBytes, words, tailBytes, framed, bytesOf}
 use Rattle.paper.specs.Replies.Reply.{Listed}
-use Rattle.paper.specs.Step.{refused}
-use Rattle.derivation.specs.declared.rows.RefList.{RefList}
-use Rattle.store.specs.declared.Outcome.{Outcome}
-use Rattle.store.specs.declared.Sets.{Sets}
-use Rattle.store.specs.Store.{GoodOutcome, movedIn}
-use Rattle.wire.specs.Bytes.{over}
+use Rattle.paper.proofs.Fits.{table-length}
 use Rattle.wire.proofs.Laws.{runs, head-last, sets-over}
-use Rattle.wire.proofs.Flat.{flat-append, flat-more, length-flat, length-flat-take}
+use Rattle.wire.proofs.Flat.{flat-append, length-flat}
 use Rattle.session.specs.declared.Refusal.{Refusal}
 use Rattle.session.specs.declared.Refusal.the-variants.{Unconfigured, BadLimits, Busy, NoCurrent, OutOfRange, Outside, SurfaceHeld, SerialsSpent, StoreFull, NoCandidate, TooMany, BadEntry, Malformed, NoRoom}
-use Rattle.session.specs.Numbered.{numberOf}
-use Rattle.session.specs.declared.Session.{Session}
-use Rattle.session.specs.View.{view}
-use Rattle.session.specs.Said.{Says}
-use Rattle.session.specs.Written.{FewMembers, memberBytes, Listable, listIn, toldBytes}
+use Rattle.store.specs.declared.Sizes.{Sizes}
+use Rattle.store.specs.declared.Tally.{Tally}
 use Rattle.session.specs.declared.writing.Told.{Told}
+use Rattle.session.specs.Numbered.{numberOf}
+use Rattle.session.specs.Said.{Says, Refuses}
+use Rattle.store.specs.Shelf.{word}
+use Rattle.store.specs.Tails.{shownAt, serialAt, surfaceAt, shownIn, serialsIn, surfacesIn, tailIn}
+use Rattle.session.specs.Written.{FewTail, FewMembers, toldBytes, numbersFrom, memberBytes}
+use Rattle.store.proofs.Shelf.{table-more, table-same, table-map}
 
 -- a refusal's number is not that of acceptance
 pub refusal-number : (r : Refusal) → eqb (numberOf r) 0 ≡ false
@@ -72,117 +70,110 @@ run d at xs e w = (w .0 ∙ ap (λ (k : ℕ). at + k) (sym e), w .1)
 pub run-on : {r1 r2 : ℕ} {d1 d2 : List ℕ} (d : List ℕ) (at : ℕ) (xs ys : List ℕ) → Run d at xs r1 d1 → Run d1 r1 ys r2 d2 → Run d at (xs ++ ys) r2 d2
 run-on d at xs ys v w = (simp length-append (omega arith), runs d xs ys at _ (v .1) (w .1) (sym (v .0)))
 
--- entries of k bytes each: behind the first i, one more
-module _ {A : Type 0} (f : A → List ℕ) (k : ℕ) (e : (x : A) → length (f x) ≡ k) where
-  pub entry-more : {d1 d2 : List ℕ} (z : A) (xs : List A) (d : List ℕ) (at i : ℕ) → i < length xs → d1 ≡ sets d at (flat f (take i xs)) → d2 ≡ sets d1 (at + k * i) (f (getD xs i z)) → d2 ≡ sets d at (flat f (take (i + 1) xs))
-  entry-more z xs d at i h e1 e2 =
-      runs d (flat f (take i xs)) (f (getD xs i z)) at (at + k * i) e1 e2 (ap (λ (n : ℕ). at + n) (length-flat-take f k e xs i (omega arith)))
-      ∙ ap (sets d at) (sym (flat-more f z xs i h))
+-- entries one after the other, of the first i of a table: what a loop that writes them has laid, from a place on
+pub record Laid {A : Type 0} (f : A → List ℕ) (g : ℕ → A) (before : List ℕ) (at i : ℕ) (after : List ℕ) : Type 0 where
+  pub long : length after ≡ length before
+  pub bytes : after ≡ sets before at (flat f (table g i))
 
--- the numbers of elements: u32 entries
-module _ {A : Type 0} (f : A → ℕ) where
-  pub words-flat : (xs : List A) → words (map f xs) ≡ flat (λ (x : A). bytes32 (f x)) xs
-  unfolding words flat
-  words-flat [] = refl
-  words-flat (x ∷ xs) = ap (λ (l : List ℕ). bytes32 (f x) ++ l) (words-flat xs)
+module _ {A : Type 0} (f : A → List ℕ) (g : ℕ → A) where
+  pub laid-none : (d : List ℕ) (at : ℕ) → Laid f g d at 0 d
+  unfolding table flat
+  laid-none d at = record { long = refl; bytes = refl }
 
-  pub length-words : (xs : List A) → length (words (map f xs)) ≡ 4 * length xs
-  length-words xs = ap length (words-flat xs) ∙ length-flat (λ (x : A). bytes32 (f x)) 4 (λ (x : A). length-bytes32 (f x)) xs
+  flat-table-more : (i : ℕ) → flat f (table g (i + 1)) ≡ flat f (table g i) ++ f (g i)
+  unfolding flat
+  flat-table-more i = ap (flat f) (table-more g i) ∙ flat-append f (table g i) (g i ∷ []) ∙ ap (λ (l : List ℕ). flat f (table g i) ++ l) (append-nil (f (g i)))
 
-  pub words-join : (xs ys : List A) → words (map f (xs ++ ys)) ≡ words (map f xs) ++ words (map f ys)
-  unfolding words
-  words-join xs ys = ap words (map-append f xs ys) ∙ flat-append bytes32 (map f xs) (map f ys)
+  -- k bytes each
+  module _ (k : ℕ) (e : (x : A) → length (f x) ≡ k) where
+    pub length-entries : (n : ℕ) → length (flat f (table g n)) ≡ k * n
+    length-entries n = length-flat f k e (table g n) ∙ ap (λ (m : ℕ). k * m) (table-length g n)
 
-  pub word-more : {d1 d2 : List ℕ} (z : A) (xs : List A) (d : List ℕ) (at i : ℕ) → i < length xs → d1 ≡ sets d at (words (map f (take i xs))) → d2 ≡ sets d1 (at + 4 * i) (bytes32 (f (getD xs i z))) → d2 ≡ sets d at (words (map f (take (i + 1) xs)))
-  word-more z xs d at i h e1 e2 =
-      entry-more (λ (x : A). bytes32 (f x)) 4 (λ (x : A). length-bytes32 (f x)) z xs d at i h (e1 ∙ ap (sets d at) (words-flat (take i xs))) e2
-      ∙ ap (sets d at) (sym (words-flat (take (i + 1) xs)))
+    pub laid-more : {d1 d2 : List ℕ} (d : List ℕ) (at i : ℕ) → Laid f g d at i d1 → length d2 ≡ length d1 → d2 ≡ sets d1 (at + k * i) (f (g i)) → Laid f g d at (i + 1) d2
+    laid-more d at i w l e2 =
+        record {
+          long = l ∙ w .long;
+          bytes = runs d (flat f (table g i)) (f (g i)) at (at + k * i) (w .bytes) e2 (ap (λ (n : ℕ). at + n) (length-entries i)) ∙ ap (sets d at) (sym (flat-table-more i));
+        }
 
--- n serials from a place on, one more
-pub serial-more : {d1 d2 : List ℕ} (z : Serial) (xs : List Serial) (d : List ℕ) (at from i : ℕ) → from + i < length xs → d1 ≡ sets d at (words (serialNos (take i (drop from xs))))
-    → d2 ≡ sets d1 (at + 4 * i) (bytes32 (getD xs (from + i) z .0)) → d2 ≡ sets d at (words (serialNos (take (i + 1) (drop from xs))))
-serial-more {d1} z xs d at from i h e1 e2 =
-    let l : i < length (drop from xs) = simp length-drop (omega arith) in
-    word-more (λ (n : Serial). n .0) z (drop from xs) d at i l e1 (e2 ∙ ap (λ (x : Serial). sets d1 (at + 4 * i) (bytes32 (x .0))) (sym (getD-drop from xs i z)))
+-- u32 entries: the numbers of a table's elements
+pub words-table : {A : Type 0} (f : A → ℕ) (g : ℕ → A) (n : ℕ) → words (map f (table g n)) ≡ flat bytes32 (table (λ (i : ℕ). f (g i)) n)
+unfolding words
+words-table f g n = ap (flat bytes32) (table-map f g n)
+
+pub length-words : {A : Type 0} (f : A → ℕ) (g : ℕ → A) (n : ℕ) → length (words (map f (table g n))) ≡ 4 * n
+length-words f g n = ap length (words-table f g n) ∙ length-entries bytes32 (λ (i : ℕ). f (g i)) 4 length-bytes32 n
+
+pub words-join : {A : Type 0} (f : A → ℕ) (xs ys : List A) → words (map f (xs ++ ys)) ≡ words (map f xs) ++ words (map f ys)
+unfolding words
+words-join f xs ys = ap words (map-append f xs ys) ∙ flat-append bytes32 (map f xs) (map f ys)
+
+-- numbers of a run, from a place on
+pub length-numbers : (xs : List ℕ) (from n : ℕ) → length (words (numbersFrom xs from n)) ≡ 4 * n
+unfolding words
+length-numbers xs from n = length-entries bytes32 (λ (i : ℕ). getD xs (from + i) 0) 4 length-bytes32 n
+
+pub serials-numbers : (xs : List ℕ) (n : ℕ) → serialNos (serialsIn xs n) ≡ numbersFrom xs 0 n
+serials-numbers xs n =
+    table-map (λ (s : Serial). s .0) (serialAt xs) n
+    ∙ table-same (λ (i : ℕ). word xs i) (λ (i : ℕ). word xs (0 + i)) n (λ i l. ap (word xs) (sym (zero-add i)))
 
 -- a body from 6 on, then the head
 pub framed-last : {n r : ℕ} {d1 d2 : List ℕ} (d b : List ℕ) (kind : ℕ) → Run d 6 b n d1 → n ≤ length d → Run d1 0 (bytes16 (n - 4) ++ bytes16 kind ++ bytes16 0) r d2
-    → (n ≡ length (framed kind 0 b)) × (d2 ≡ over (framed kind 0 b) d)
+    → Says (framed kind 0 b) d (record { number = 0; len = n }) d2
 framed-last {n = n} {d1 = d1} d b kind v h w =
     let k : n - 4 ≡ 2 + length b = omega arith in
-    let l : n ≡ length (framed kind 0 b) = omega arith in (
-      l,
-      head-last d (bytes16 (2 + length b) ++ bytes16 kind ++ bytes16 0) b 6 refl (v .1) (w .1 ∙ ap (λ (x : ℕ). sets d1 0 (bytes16 x ++ bytes16 kind ++ bytes16 0)) k)
-          ∙ sets-over (framed kind 0 b) d (omega arith),
-    )
-
--- six bytes say no
-pub refused-says : {n r : ℕ} {d' : List ℕ} (s : Session) (k kind : ℕ) (why : Refusal) (d : List ℕ) → n ≡ numberOf why → Run d 0 (bytes16 2 ++ bytes16 kind ++ bytes16 n) r d' → 6 ≤ length d
-    → Says s k (refused (view s) kind (numberOf why)) d (record { number = n; len = r; next = s }) d'
-unfolding bytesOf
-refused-says s k kind why d e w h =
+    let l : n ≡ length (framed kind 0 b) = omega arith in
     record {
-      answer = simp (refusal-number why, e) (cc (w .0));
-      bytes = rw e at (w .1 ∙ sets-over (bytes16 2 ++ bytes16 kind ++ bytes16 _) d h);
+      answer = ap (λ (m : ℕ). record { number = 0; len = m }) l;
+      bytes = head-last d (bytes16 (2 + length b) ++ bytes16 kind ++ bytes16 0) b 6 refl (v .1) (w .1 ∙ ap (λ (x : ℕ). sets d1 0 (bytes16 x ++ bytes16 kind ++ bytes16 0)) k)
+          ∙ sets-over (framed kind 0 b) d (omega arith);
     }
 
--- an array that holds its own elements: how many, and the length of their numbers
-module _ {A : Type 0} {n m : ℕ} {z : A} {a : List A} (h : Padded n z a m (used m a)) where
-  pub held-long : length (take m a) ≡ m
-  unfolding used
-  held-long = sym (h .long)
+-- six bytes say no
+pub refused-says : {n r : ℕ} {d' : List ℕ} (kind : ℕ) (why : Refusal) (d : List ℕ) → n ≡ numberOf why → Run d 0 (bytes16 2 ++ bytes16 kind ++ bytes16 n) r d' → 6 ≤ length d
+    → Refuses kind (numberOf why) d (record { number = n; len = r }) d'
+refused-says kind why d e w h =
+    record { answer = rw (e, w .0); bytes = rw e at (w .1 ∙ sets-over (bytes16 2 ++ bytes16 kind ++ bytes16 _) d h) }
 
-  pub held-words : (f : A → ℕ) → length (words (map f (take m a))) ≡ 4 * m
-  held-words f = length-words f (take m a) ∙ ap (λ (k : ℕ). 4 * k) held-long
+-- the lengths of a tail's runs
+pub length-handed : (hs : List ℕ) (n : ℕ) → length (flat shownBytes (shownIn hs n)) ≡ 12 * n
+length-handed hs n = length-entries shownBytes (shownAt hs) 12 length-shown n
+
+pub length-serials : (xs : List ℕ) (n : ℕ) → length (words (serialNos (serialsIn xs n))) ≡ 4 * n
+length-serials xs n = length-words (λ (s : Serial). s .0) (serialAt xs) n
+
+pub length-surfaces : (xs : List ℕ) (n : ℕ) → length (words (surfaceNos (surfacesIn xs n))) ≡ 4 * n
+length-surfaces xs n = length-words (λ (s : Surface). s .0) (surfaceAt xs) n
 
 -- a tail by its runs, and its room
-module _ (o : Outcome) (h : GoodOutcome o) where
-  pub tail-is : tailBytes (movedIn o .tail) ≡ (o .handed .len ∷ flat shownBytes (take (o .handed .len) (o .handed .items)))
-      ++ (o .thrown .len ∷ words (serialNos (take (o .thrown .len) (o .thrown .items))))
-      ++ (o .released .len ∷ words (surfaceNos (take (o .released .len) (o .released .items))))
-  unfolding tailBytes used
-  tail-is = rw (held-long (h .handed), held-long (h .thrown), held-long (h .released))
+module _ (hs ts rs : List ℕ) (c : Tally) where
+  pub tail-is : tailBytes (tailIn hs ts rs c) ≡ (c .handed ∷ flat shownBytes (shownIn hs (c .handed)))
+      ++ (c .thrown ∷ words (serialNos (serialsIn ts (c .thrown))))
+      ++ (c .released ∷ words (surfaceNos (surfacesIn rs (c .released))))
+  unfolding tailBytes
+  tail-is = rw (table-length (shownAt hs) (c .handed), table-length (serialAt ts) (c .thrown), table-length (surfaceAt rs) (c .released))
 
-  pub length-handed : length (flat shownBytes (take (o .handed .len) (o .handed .items))) ≡ 12 * o .handed .len
-  length-handed = length-flat shownBytes 12 length-shown (take (o .handed .len) (o .handed .items)) ∙ ap (λ (k : ℕ). 12 * k) (held-long (h .handed))
-
-  pub tail-room : length (tailBytes (movedIn o .tail)) ≤ 331
-  tail-room =
+  pub tail-room : FewTail c → length (tailBytes (tailIn hs ts rs c)) ≤ 331
+  tail-room f =
       let e = ap length tail-is in
-      omega (arith, simp length-append at e, length-handed, held-words (h .thrown) (λ (x : Serial). x .0), held-words (h .released) (λ (x : Surface). x .0), h .handed .room, h .thrown .room, h .released .room)
+      omega (arith, simp length-append at e, length-handed hs (c .handed), length-serials ts (c .thrown), length-surfaces rs (c .released))
 
--- serials from a place on, and the room of the members of the sets
-pub length-serials : (xs : List Serial) (from n : ℕ) → from + n ≤ length xs → length (words (serialNos (take n (drop from xs)))) ≡ 4 * n
-length-serials xs from n h =
-    let l : n ≤ length (drop from xs) = simp length-drop (omega arith) in
-    length-words (λ (x : Serial). x .0) (take n (drop from xs)) ∙ ap (λ (k : ℕ). 4 * k) (length-take-le n (drop from xs) l)
-
-pub serials-most : (xs : List Serial) (n : ℕ) → length (words (serialNos (take n xs))) ≤ 4 * n
-serials-most xs n =
-    let e = length-words (λ (x : Serial). x .0) (take n xs) in
-    let k : length (take n xs) ≤ n = simp length-take (omega arith) in
-    omega arith
-
-pub members-room : (x : Sets) → FewMembers x → length (memberBytes x) ≤ 128
-members-room x f =
-    let n = x .refs .before + x .refs .after in
-    let a = serials-most (x .refs .items) n in
-    let b = serials-most (x .rest .items) (x .rest .foll) in
-    let p = serials-most (drop n (x .refs .items)) (x .refs .long) in
-    let q = serials-most (drop (x .rest .foll) (x .rest .items)) (x .rest .«lt_foll») in
+-- the room of the members of the sets
+pub members-room : (x : Sizes) (us vs : List ℕ) → FewMembers x → length (memberBytes x us vs) ≤ 64
+members-room x us vs f =
+    let n = x .before + x .after in
+    let a = length-numbers us 0 n in
+    let b = length-numbers vs 0 (x .foll) in
+    let p = length-numbers us n (x .long) in
+    let q = length-numbers vs (x .foll) (x .«lt_foll») in
     simp length-append (omega arith)
 
--- where the members of a begun reply end, and where its tail does
-module _ (x : Sets) (f : FewMembers x) {t k m : ℕ} (et : t ≡ 15) (ek : k ≡ t + 5) (em : m ≡ k + length (memberBytes x)) where
-  pub members-end : m ≤ 148
-  members-end = omega (arith, members-room x f)
-
-  pub begun-end : {n : ℕ} (o : Outcome) → GoodOutcome o → n ≡ m + length (tailBytes (movedIn o .tail)) → n ≤ 479
-  begun-end o h en = omega (arith, members-end, tail-room o h)
-
 -- the serials of two lists, one behind the other
-pub listed : (x y : RefList) → Listable x → Listable y → bytesOf (Listed (listIn x) (listIn y)) ≡ framed 259 0 ((x .len ∷ y .len ∷ words (serialNos (take (x .len) (x .items)))) ++ words (serialNos (take (y .len) (y .items))))
-unfolding bytesOf used
-listed x y h k =
-    let e = words-join (λ (n : Serial). n .0) (take (x .len) (x .items)) (take (y .len) (y .items)) in
-    rw (held-long (h .holds), held-long (k .holds), e)
+pub listed : (xs ys : List ℕ) (n m : ℕ) → bytesOf (Listed (serialsIn xs n) (serialsIn ys m)) ≡ framed 259 0 ((n ∷ m ∷ words (numbersFrom xs 0 n)) ++ words (numbersFrom ys 0 m))
+unfolding bytesOf
+listed xs ys n m =
+    let e : words (serialNos (serialsIn xs n ++ serialsIn ys m)) ≡ words (numbersFrom xs 0 n) ++ words (numbersFrom ys 0 m) =
+    words-join (λ (s : Serial). s .0) (serialsIn xs n) (serialsIn ys m)
+    ∙ ap₂ (λ (a b : List ℕ). words a ++ words b) (serials-numbers xs n) (serials-numbers ys m) in
+    rw (table-length (serialAt xs) n, table-length (serialAt ys) m, e)

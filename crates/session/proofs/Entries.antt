@@ -1,48 +1,32 @@
--- Entries read one behind the other: a test of all of them is false once it is false of one, and the wishes of all stand behind those that were there.
-use mathlib.Core.Path.{_≡_, refl, sym, ap, ap₂, _∙_, subst}
-use mathlib.Core.Bool.{Bool, true, false, cond, not, _&&_, _||_}
-use mathlib.Core.List.{List, [], _∷_, _++_, map, map-append, append-assoc, append-nil}
-use Prim.Native.Nat.{ℕ, zero, suc, _+_, _*_, _<_, _≤_, zero-le}
+-- Entries read one behind the other: a test of all of them is false once it is false of one.
+use mathlib.Core.Path.{_≡_, refl, sym, ap, ap₂, _∙_}
+use mathlib.Core.Bool.{Bool, true, false, cond, not, _&&_, _||_, and-true, and-false, and-assoc}
+use mathlib.Core.List.{List, [], _∷_, _++_}
+use Prim.Native.Nat.{ℕ, zero, suc, _+_, _*_, _<_, _≤_}
 use native.Mathlib.Omega.{arith}
 use native.Mathlib.Numerals.{add-one}
 use borrow.Author.Tests.{ltb-true, ltb-false, leb-true, not-true, not-false}
-use lib.ListN.{length, length-append, length-map}
 use lib.IntN.{ℤ, pos, negsuc}
 use lib.Signed.{ltZ, leZ}
 use lib.Dec.{ltb, leb, eqb}
 use Rattle.paper.specs.declared.ShortEntry.{ShortEntry}
-use Rattle.paper.specs.declared.Wish.{Wish}
 use Rattle.paper.specs.Words.{allB, table}
 use Rattle.paper.specs.Numbers.{u8, u16}
 use Rattle.paper.specs.Nal.{taken, irap, idr}
 use Rattle.paper.specs.Records.{fieldsOf, shortAt, longAt}
 use Rattle.paper.specs.Ranges.{falling, rising, longOk, entriesOf, beginRanges}
-use Rattle.paper.specs.Sets.{Wishes, wishesOf, wishIn32, wishesIn32}
-use Rattle.paper.proofs.Bools.{left, right, not-both, split}
+use Rattle.paper.proofs.Bools.{left, right, split}
 use Rattle.paper.proofs.Fits.{table-length}
-use Rattle.arrays.specs.Pad.{Padded}
-use Rattle.arrays.proofs.Pad.{is-push}
 use Rattle.derivation.specs.Heads.{headRanges}
-use Rattle.derivation.specs.Answers.{wantedOf}
-use Rattle.derivation.specs.declared.wishing.Wanted.{Wanted}
-use Rattle.derivation.specs.declared.wishing.Wanted.the-variants as W
 use Rattle.derivation.proofs.Splitting.{ranges-split}
-use Rattle.session.specs.declared.reading.Wanting.{Wanting}
 use Rattle.session.specs.declared.reading.Head.{Head}
-use Rattle.session.specs.Parts.{headOf, shortsAt, longsAt, noWish, blankWanting, wanted, Filled, HoldsWishes}
+use Rattle.session.specs.Parts.{headOf}
 
 -- ---- tests of a run of entries
-and-true : (a : Bool) → (a && true) ≡ a
-and-true true = refl
-and-true false = refl
-
-and-false : (a : Bool) → (a && false) ≡ false
-and-false true = refl
-and-false false = refl
-
-and-assoc : (a b c : Bool) → (a && (b && c)) ≡ (a && b && c)
-and-assoc true b c = refl
-and-assoc false b c = refl
+-- a number where a flag is set, else 0
+pub at-most : (b : Bool) (n : ℕ) → cond b n 0 ≤ n
+at-most true n = omega arith
+at-most false n = omega arith
 
 -- a test of the first n entries that asks one thing more for each entry
 module _ (h q : ℕ → Bool) (more : (i : ℕ) → h (suc i) ≡ (h i && q i)) where
@@ -56,10 +40,14 @@ module _ (h q : ℕ → Bool) (more : (i : ℕ) → h (suc i) ≡ (h i && q i)) 
       (λ b. rw (more n, stops i n (ltb-true i n b) e))
       (λ b. let k : n ≡ i = omega (arith, ltb-false i n b) in rw (more n, k, e) (and-false (h i)))
 
+pub all-both : {A : Type 0} (f : A → Bool) (xs ys : List A) → allB f (xs ++ ys) ≡ (allB f xs && allB f ys)
+unfolding allB
+all-both f [] ys = refl
+all-both f (x ∷ xs) ys = rw (all-both f xs ys) (sym (and-assoc (f x) (allB f xs) (allB f ys)))
+
 pub all-more : {A : Type 0} (f : A → Bool) (xs : List A) (x : A) → allB f (xs ++ (x ∷ [])) ≡ (allB f xs && f x)
 unfolding allB
-all-more f [] x = and-true (f x)
-all-more f (y ∷ xs) x = rw (all-more f xs x) (and-assoc (f y) (allB f xs) (f x))
+all-more f xs x = all-both f xs (x ∷ []) ∙ ap (λ (b : Bool). allB f xs && b) (and-true (f x))
 
 pub all-none : {A : Type 0} (f : A → Bool) (g : ℕ → A) → allB f (table g 0) ≡ true
 unfolding allB table
@@ -110,7 +98,7 @@ module _ {t : ℤ → ShortEntry → Bool} {g : ℤ → List ShortEntry → Bool
   run-more : (d : ℤ) (xs : List ShortEntry) (e : ShortEntry) → g d (xs ++ (e ∷ [])) ≡ (g d xs && t (lastOf d xs) e)
   unfolding lastOf
   run-more d [] e = rw (r .more d e [], r .none (e .delta), r .none d) (and-true (t d e))
-  run-more d (x ∷ xs) e = rw (r .more d x (xs ++ (e ∷ [])), r .more d x xs, run-more (x .delta) xs e) (and-assoc (t d x) (g (x .delta) xs) (t (lastOf (x .delta) xs) e))
+  run-more d (x ∷ xs) e = rw (r .more d x (xs ++ (e ∷ [])), r .more d x xs, run-more (x .delta) xs e) (sym (and-assoc (t d x) (g (x .delta) xs) (t (lastOf (x .delta) xs) e)))
 
   pub run-none : (d : ℤ) (f : ℕ → ShortEntry) → g d (table f 0) ≡ true
   unfolding table
@@ -149,7 +137,7 @@ abbrev pub posIn : List ℕ → Head → Bool
 posIn r h = rising (pos 0) (table (shortAt r (16 + 5 * h .neg)) (h .pos))
 
 -- as many entries as the counts say
-entries-are : (r : List ℕ) → entriesOf (fieldsOf r) ≡ u8 r 13 + u8 r 14 + u8 r 15
+pub entries-are : (r : List ℕ) → entriesOf (fieldsOf r) ≡ u8 r 13 + u8 r 14 + u8 r 15
 unfolding fieldsOf
 entries-are r =
     rw (table-length (shortAt r 16) (u8 r 13), table-length (shortAt r (16 + 5 * u8 r 13)) (u8 r 14), table-length (longAt r (16 + 5 * (u8 r 13 + u8 r 14))) (u8 r 15))
@@ -185,68 +173,3 @@ module _ (M : ℕ) (r : List ℕ) {h : Head} {b : Bool} (read : h ≡ headOf r) 
     begin-on x y z =
         ap₂ (λ (u v : Bool). u && v) x (ap₂ (λ (u v : Bool). u && v) y z)
         ∙ sym (in-parts M r ∙ ap (λ (g : Head). headIn M g && (longsIn M r g && (negIn r g && posIn r g))) (sym read) ∙ ap (λ (u : Bool). u && (longsIn M r h && (negIn r h && posIn r h))) head-in)
-
--- ---- wishes
-filled-none : (t : Wanting) → Filled t t []
-unfolding allB
-filled-none t =
-    record {
-      len = omega arith;
-      inside = sym (and-true (t .inside));
-      items = λ e l p. subst (Padded 16 noWish (t .items) (t .len)) (sym (append-nil l)) p;
-    }
-
--- one wish more
-module _ {t u : Wanting} {ws : List Wish} (h : Filled t u ws) (w : Wish) (lt : u .len < 16) where
-  longer : length (ws ++ (w ∷ [])) ≡ length ws + 1
-  longer = length-append ws (w ∷ [])
-
-  one : (b : Bool) → wishIn32 w ≡ b → Filled t (wanted u (cond b (W.Is w) W.Outside)) (ws ++ (w ∷ []))
-  one true e =
-      record {
-        len = omega (arith, h .len, longer);
-        inside = rw (all-more wishIn32 ws w, e, and-true (allB wishIn32 ws)) (h .inside);
-        items = λ i l p. subst (Padded 16 noWish _ _) (append-assoc l ws (w ∷ [])) (is-push (h .items i l p) w lt);
-      }
-  one false e =
-      record {
-        len = omega (arith, h .len, longer);
-        inside = rw (all-more wishIn32 ws w, e, and-false (allB wishIn32 ws)) (sym (and-false (t .inside)));
-        items = λ i l p. not-both false i refl;
-      }
-
-  filled-more : {r : Wanting} {x : Wanted} → x ≡ wantedOf w → r ≡ wanted u x → Filled t r (ws ++ (w ∷ []))
-  filled-more e f = subst (λ (r : Wanting). Filled t r (ws ++ (w ∷ []))) (sym (f ∙ ap (wanted u) e)) (one (wishIn32 w) refl)
-
--- the wishes of a table of entries: how many they are, those of none, and one more
-pub filled-length : {A : Type 0} {t u : Wanting} (g : A → Wish) (f : ℕ → A) (i : ℕ) → Filled t u (map g (table f i)) → u .len ≡ t .len + i
-filled-length g f i h = omega (arith, h .len, length-map (table f i) g, table-length f i)
-
-pub none-filled : {A : Type 0} (g : A → Wish) (f : ℕ → A) (t : Wanting) → Filled t t (map g (table f 0))
-unfolding table
-none-filled g f t = filled-none t
-
-pub filled-table : {A : Type 0} {t u r : Wanting} {x : Wanted} (g : A → Wish) (f : ℕ → A) (i : ℕ) → Filled t u (map g (table f i)) → t .len + i < 16 → x ≡ wantedOf (g (f i)) → r ≡ wanted u x
-    → Filled t r (map g (table f (i + 1)))
-unfolding table
-filled-table {t = t} {r = r} g f i h lt e k =
-    subst (Filled t r) (sym (rw (add-one i) (map-append g (table f i) (f i ∷ [])))) (filled-more h (g (f i)) (omega (arith, filled-length g f i h)) e k)
-
--- three runs of wishes, one behind the other from none
-filled-all : {a b r : Wanting} (w : Wishes) → Filled blankWanting a (w .neg) → Filled a b (w .pos) → Filled b r (w .lt) → HoldsWishes r w
-unfolding wishesIn32
-filled-all {a} {b} {r} w x y z =
-    record {
-      inside = z .inside ∙ ap (λ (q : Bool). q && allB wishIn32 (w .lt)) (y .inside ∙ ap (λ (q : Bool). q && allB wishIn32 (w .pos)) (x .inside));
-      items = λ e.
-          let eb : b .inside ≡ true = left (b .inside) (allB wishIn32 (w .lt)) (sym (z .inside) ∙ e) in
-          let ea : a .inside ≡ true = left (a .inside) (allB wishIn32 (w .pos)) (sym (y .inside) ∙ eb) in
-          subst (Padded 16 noWish (r .items) (r .len)) (append-assoc (w .neg) (w .pos) (w .lt))
-          (z .items e (w .neg ++ w .pos) (y .items eb (w .neg) (x .items ea [] (record { places = refl; long = refl; room = zero-le }))));
-    }
-
--- the wishes of a begin's neg, pos and lt entries
-pub wishes-held : {t a b x : Wanting} {h : Head} {z : ℤ} (M : ℕ) (p : ℤ) (r : List ℕ) → t ≡ blankWanting → h ≡ headOf r → z ≡ p → Filled t a (shortsAt z r 16 (h .neg))
-    → Filled a b (shortsAt z r (16 + 5 * h .neg) (h .pos)) → Filled b x (longsAt M z r (16 + 5 * (h .neg + h .pos)) (h .lt)) → HoldsWishes x (wishesOf M p (fieldsOf r))
-unfolding wishesOf fieldsOf
-wishes-held M p r et eh ez x y w = filled-all (wishesOf M p (fieldsOf r)) (rw (et, eh, ez) at x) (rw (eh, ez) at y) (rw (eh, ez) at w)

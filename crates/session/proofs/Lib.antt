@@ -1,8 +1,10 @@
-pub mod Saying
-pub mod Ways
-pub mod Bytes
 pub mod Entries
+pub mod Bytes
+pub mod Ways
+pub mod Fronts
 pub mod Slicing
+pub mod Wishing
+pub mod Saying
 pub mod Begins
 pub mod Steps
 pub mod Bridge

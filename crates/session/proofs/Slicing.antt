@@ -8,15 +8,13 @@ use lib.Dec.{eqb, ltb, leb}
 use lib.ListN.{length, take, drop, length-drop, length-append}
 use lib.Seq.{take-suc, getD-drop}
 use borrow.Author.Tests.{eqb-true, eqb-false, lt-ltb, leb-true}
-use Rattle.wire.specs.Bytes.{over}
-use Rattle.arrays.proofs.Pad.{is-view, is-good}
 use Rattle.paper.specs.declared.Serial.{Serial}
 use Rattle.paper.specs.declared.Current.{Current}
 use Rattle.paper.specs.declared.Now.{Now}
 use Rattle.paper.specs.Words.{_gives_, first, anyB, table}
 use Rattle.paper.specs.Numbers.{u8, bit}
 use Rattle.paper.specs.Records.{ListAsk, Slice, lengthOf, entries0, entries1, sliceOf, bodyOk, wellFormed}
-use Rattle.paper.specs.State.{Refs, onNow}
+use Rattle.paper.specs.State.{Session, Refs, onNow}
 use Rattle.paper.specs.Ranges.{activeOk, listsRanges}
 use Rattle.paper.specs.RefLists.{candidates0, candidates1, list0, list1, noCandidate, tooMany, badEntry}
 use Rattle.paper.specs.Replies.{bytesOf}
@@ -25,22 +23,18 @@ use Rattle.paper.specs.Step.{refused, listsRefusal, listsAt, listsOf}
 use Rattle.paper.proofs.Bools.{left, right}
 use Rattle.paper.proofs.Ways.{first-none, yes-of}
 use Rattle.paper.proofs.Fits.{table-length}
-use Rattle.derivation.specs.declared.rows.RefList.{RefList}
-use Rattle.derivation.specs.Lists.{refsIn, noList, candidatesOf, listOf, CandidateCount, Ready, HoldsList}
+use Rattle.derivation.specs.Lists.{candidatesOf, listOf, CandidateCount, Ready}
 use Rattle.derivation.proofs.Instances.{list0-is, list1-is, candidates-0, candidates-1}
 use Rattle.session.specs.declared.Answer.{Answer}
 use Rattle.session.specs.declared.Refusal.{Refusal}
-use Rattle.session.specs.declared.Refusal.the-variants.{Unconfigured, BadLimits, Busy, NoCurrent, OutOfRange, Outside, SurfaceHeld, SerialsSpent, StoreFull, NoCandidate, TooMany, BadEntry, Malformed, NoRoom}
-use Rattle.session.specs.declared.Session.{Session}
 use Rattle.session.specs.declared.listing.Ask.{Ask}
 use Rattle.session.specs.declared.listing.Verdict.{Verdict}
 use Rattle.session.specs.declared.listing.Verdict.the-variants.{Fine, No}
 use Rattle.session.specs.Numbered.{numberOf}
-use Rattle.session.specs.Said.{Says, WellFormed}
+use Rattle.session.specs.Said.{Says, Refuses, Answers, WellFormed}
 use Rattle.session.proofs.Bytes.{refusal-number}
 use Rattle.session.specs.Slices.{AsksAs, numberIn, listsNumber}
-use Rattle.session.specs.View.{view}
-use Rattle.session.specs.Written.{listIn, Listable}
+use Rattle.store.specs.Tails.{serialsIn}
 
 -- ---- the entry bytes
 
@@ -241,61 +235,62 @@ module _ {x : Refs} {c : Serial} {a : Ask} {own : Bool} {es : List ℕ} (r : Lis
 
 -- ---- the two lists
 
-holds-none : (l : RefList) (xs : List Serial) → l ≡ noList → xs ≡ [] → HoldsList l xs
-holds-none l xs e g = rw (e, g) (record { places = refl; long = refl; room = omega arith })
+pub no-serials : (xs : List ℕ) → serialsIn xs 0 ≡ []
+unfolding table
+no-serials xs = refl
 
-module _ (x : Refs) (c : Serial) (f : Slice) (l : RefList) {a : Ask} where
-  pub unused-0 : AsksAs a (f .ask0) → a .uses ≡ false → l ≡ noList → HoldsList l (list0 x c f)
+module _ (x : Refs) (c : Serial) (f : Slice) {a : Ask} where
+  pub unused-0 : AsksAs a (f .ask0) → a .uses ≡ false → [] ≡ list0 x c f
   unfolding list0
-  unused-0 p u e = let v : f .ask0 .uses ≡ false = sym (p .uses) ∙ u in holds-none l (list0 x c f) e (rw v)
+  unused-0 p u = let v : f .ask0 .uses ≡ false = sym (p .uses) ∙ u in rw v
 
-  pub unused-1 : AsksAs a (f .ask1) → a .uses ≡ false → l ≡ noList → HoldsList l (list1 x c f)
+  pub unused-1 : AsksAs a (f .ask1) → a .uses ≡ false → [] ≡ list1 x c f
   unfolding list1
-  unused-1 p u e = let v : f .ask1 .uses ≡ false = sym (p .uses) ∙ u in holds-none l (list1 x c f) e (rw v)
+  unused-1 p u = let v : f .ask1 .uses ≡ false = sym (p .uses) ∙ u in rw v
 
   module _ {own : Bool} {es : List ℕ} (o : own ≡ f .own) (u : a .uses ≡ true) where
-    pub held-0 : {n : ℕ} {last : Bool} → AsksAs a (f .ask0) → es ≡ f .ask0 .entries → CandidateCount x own n → last ≡ (own && not (a .modify) && ltb (a .active) n)
-        → HoldsList l (listOf x c own false last (a .active) (a .modify) es) → HoldsList l (list0 x c f)
-    held-0 {last = last} p e k j h =
+    pub built-0 : {n : ℕ} {last : Bool} {xs : List Serial} → AsksAs a (f .ask0) → es ≡ f .ask0 .entries → CandidateCount x own n → last ≡ (own && not (a .modify) && ltb (a .active) n)
+        → xs ≡ listOf x c own false last (a .active) (a .modify) es → xs ≡ list0 x c f
+    built-0 p e k j h =
         let v : f .ask0 .uses ≡ true = sym (p .uses) ∙ u in
-        let i : list0 x c f ≡ listOf x c own false last (a .active) (a .modify) es = rw (j, k .first c, o, p .active, p .modify, e) (list0-is x c f v) in
-        rw i h
+        h ∙ sym (rw (j, k .first c, o, p .active, p .modify, e) (list0-is x c f v))
 
-    pub held-1 : AsksAs a (f .ask1) → es ≡ f .ask1 .entries → HoldsList l (listOf x c own true false (a .active) (a .modify) es) → HoldsList l (list1 x c f)
-    held-1 p e h =
+    pub built-1 : {xs : List Serial} → AsksAs a (f .ask1) → es ≡ f .ask1 .entries → xs ≡ listOf x c own true false (a .active) (a .modify) es → xs ≡ list1 x c f
+    built-1 p e h =
         let v : f .ask1 .uses ≡ true = sym (p .uses) ∙ u in
-        let i : list1 x c f ≡ listOf x c own true false (a .active) (a .modify) es = rw (o, p .active, p .modify, e) (list1-is x c f v) in
-        rw i h
-
-pub listable : (l : RefList) (xs : List Serial) → HoldsList l xs → Listable l
-listable l xs h = record { holds = is-good h }
+        h ∙ sym (rw (o, p .active, p .modify, e) (list1-is x c f v))
 
 -- ---- the answer
+
+pub says-listed : {a : Answer} {before after : List ℕ} {xs ys us vs : List Serial} → xs ≡ us → ys ≡ vs → Says (bytesOf (Listed xs ys)) before a after → Says (bytesOf (Listed us vs)) before a after
+says-listed p q h = rw (← p, ← q) h
 
 pub fine-is : (v : Verdict) (n : ℕ) → v ≡ Fine → numberIn v ≡ n → n ≡ 0
 fine-is v n e j = sym j ∙ rw e
 
-same-order : (s : Session) (c : Current) (f : Slice) → listsRefusal (view s) c f ≡ listsNumber (refsIn (s .refs)) (c .serial) f
+same-order : (s : Session) (x : Refs) (c : Current) (f : Slice) → s .refs ≡ x → listsRefusal s c f ≡ listsNumber x (c .serial) f
 unfolding listsRefusal listsNumber
-same-order s c f = refl
+same-order s x c f e = ap (λ (y : Refs). listsNumber y (c .serial) f) e
 
-module _ (s : Session) (c : Current) (f : Slice) (before after : List ℕ) where
-  pub says-no : (a : Answer) (v : Verdict) (why : Refusal) → v ≡ No why → numberIn v ≡ listsNumber (refsIn (s .refs)) (c .serial) f → Says s 3 (refused (view s) 259 (numberOf why)) before a after → Says s 3 (listsAt (view s) f c) before a after
-  says-no a v why e j h =
-      let i : listsRefusal (view s) c f ≡ numberOf why = same-order s c f ∙ sym j ∙ rw e in
-      rw (i, refusal-number why) h
+module _ {a : Answer} (s : Session) (x : Refs) (r : s .refs ≡ x) (c : Current) (f : Slice) (before after : List ℕ) where
+  pub answers-no : (v : Verdict) (why : Refusal) → v ≡ No why → numberIn v ≡ listsNumber x (c .serial) f → Refuses 259 (numberOf why) before a after → Answers (listsAt s f c) before a after
+  unfolding bytesOf
+  answers-no v why e j h =
+      let i : listsRefusal s c f ≡ numberOf why = same-order s x c f r ∙ sym j ∙ rw e in
+      rw (i, refusal-number why) (record { answer = h .answer; bytes = h .bytes })
 
-  pub says-lists : (x y : RefList) (n : ℕ) → listsNumber (refsIn (s .refs)) (c .serial) f ≡ 0
-      → HoldsList x (list0 (refsIn (s .refs)) (c .serial) f) → HoldsList y (list1 (refsIn (s .refs)) (c .serial) f)
-      → n ≡ length (bytesOf (Listed (listIn x) (listIn y))) → after ≡ over (bytesOf (Listed (listIn x) (listIn y))) before
-      → Says s 3 (listsAt (view s) f c) before (record { number = 0; len = n; next = s }) after
-  says-lists x y n j hx hy en eb =
-      let i : listsRefusal (view s) c f ≡ 0 = same-order s c f ∙ j in
-      rw (i, ← is-view hx, ← is-view hy) (record { answer = rw en; bytes = eb })
+  pub answers-lists : listsNumber x (c .serial) f ≡ 0 → Says (bytesOf (Listed (list0 x (c .serial) f) (list1 x (c .serial) f))) before a after → Answers (listsAt s f c) before a after
+  answers-lists j h =
+      let i : listsRefusal s c f ≡ 0 = same-order s x c f r ∙ j in
+      rw (i, r) (record { answer = h .answer; bytes = h .bytes })
 
-now-is : (s : Session) (f : Slice) (w : Now) → s .current ≡ w → listsOf (view s) f ≡ onNow w (refused (view s) 259 4) (listsAt (view s) f)
+now-is : (s : Session) (f : Slice) (w : Now) → s .current ≡ w → listsOf s f ≡ onNow w (refused s 259 4) (listsAt s f)
 unfolding listsOf
-now-is s f w e = ap (λ (v : Now). onNow v (refused (view s) 259 4) (listsAt (view s) f)) e
+now-is s f w e = ap (λ (v : Now). onNow v (refused s 259 4) (listsAt s f)) e
 
-pub says-now : (s : Session) (f : Slice) (before after : List ℕ) (a : Answer) (w : Now) → s .current ≡ w → Says s 3 (onNow w (refused (view s) 259 4) (listsAt (view s) f)) before a after → Says s 3 (listsOf (view s) f) before a after
-says-now s f before after a w e h = rw (now-is s f w e) h
+pub answers-now : {a : Answer} (s : Session) (f : Slice) (before after : List ℕ) (w : Now) → s .current ≡ w → Answers (onNow w (refused s 259 4) (listsAt s f)) before a after → Answers (listsOf s f) before a after
+answers-now s f before after w e h = rw (now-is s f w e) h
+
+pub answers-idle : {a : Answer} (s : Session) (before after : List ℕ) → Refuses 259 4 before a after → Answers (refused s 259 4) before a after
+unfolding bytesOf
+answers-idle s before after h = record { answer = h .answer; bytes = h .bytes }

@@ -1,23 +1,26 @@
 -- One call: number 14, number 13, or what the record's kind says, as the paper's `stepOf` has them.
 use Prim.Native.Nat.{ℕ, suc, _+_, _≤_, _<_}
 use mathlib.Core.Path.{_≡_, refl, sym, ap, _∙_, subst}
-use mathlib.Core.List.{List, [], _∷_, _++_}
+use mathlib.Core.List.{List}
 use mathlib.Core.Bool.{Bool, true, false, cond, _&&_}
 use native.Mathlib.Omega.{arith}
-use lib.Dec.{eqb, ltb, leb}
-use lib.ListN.{length, drop}
-use borrow.Author.Tests.{lt-ltb, le-ltb, eq-eqb, ne-eqb, eqb-true, eqb-false, leb-true}
+use lib.Dec.{eqb, leb}
+use lib.ListN.{length}
+use borrow.Author.Tests.{le-ltb, eqb-true, leb-true}
 use Rattle.wire.specs.Bytes.{over}
-use Rattle.paper.specs.Records.{kindOf, lengthOf, bodyOk, wellFormed, limitsOf, fieldsOf, sliceOf}
+use Rattle.paper.specs.declared.Now.{Now}
+use Rattle.paper.specs.declared.Now.the-variants as Now
+use Rattle.paper.specs.Records.{Slice, kindOf, lengthOf, bodyOk, wellFormed, limitsOf, fieldsOf, sliceOf}
+use Rattle.paper.specs.State.{onNow}
 use Rattle.paper.specs.State as P
 use Rattle.paper.specs.Replies.{bytesOf}
-use Rattle.paper.specs.Step.{Decided, Result, refused, configureOf, beginOf, listsOf, finishOf, drainOf, discardOf, endOf, abandonOf, byKind, decideOf, stepOf}
-use Rattle.paper.proofs.Bools.{left, right, split, not-both}
-use Rattle.session.specs.declared.Session.{Session}
+use Rattle.paper.specs.Step.{Decided, Result, refused, configureOf, beginOf, listsRefusal, listsAt, listsOf, finishOf, drainOf, discardOf, endOf, abandonOf, byKind, decideOf, stepOf}
+use Rattle.paper.proofs.Bools.{left, right, split, by-case}
+use Rattle.paper.proofs.Rooms.{nothing-written}
 use Rattle.session.specs.declared.Answer.{Answer}
-use Rattle.session.specs.View.{view, nextOf}
+use Rattle.session.specs.View.{Memory, sessionIn}
 use Rattle.session.specs.Parts.{kindIn}
-use Rattle.session.specs.Said.{Says, WellFormed, Permitted}
+use Rattle.session.specs.Said.{Answers, Does, WellFormed, Permitted}
 
 -- ---- the kind that was read
 
@@ -81,36 +84,60 @@ module _ (v : P.Session) (r : List ℕ) where
       (cond (eqb n 7) (endOf v)
       (abandonOf v)))))))
 
-  pub decides : (k : ℕ) → WellFormed k r → decideOf v r ≡ arm k
+  decides : (k : ℕ) → WellFormed k r → decideOf v r ≡ arm k
   unfolding byKind
   decides k w = by-kind w ∙ ap arm (w .kind)
+
+-- ---- lists change nothing
+
+record Keeps (s : P.Session) (d : Decided) : Type 0 where
+  is : s ≡ d .next
+
+lists-keep : (s : P.Session) (f : Slice) → Keeps s (listsOf s f)
+unfolding listsOf
+lists-keep s f = go (s .current)
+  where
+    go : (x : Now) → Keeps s (onNow x (refused s 259 4) (listsAt s f))
+    go Now.Idle = record { is = refl }
+    go (Now.Is c) = by-case (Keeps s) (eqb (listsRefusal s c f) 0) _ _ (λ _. record { is = refl }) (λ _. record { is = refl })
+
+pub lists-do : (m : Memory) (f : Slice) {before : List ℕ} {a : Answer} {after : List ℕ} → Answers (listsOf (sessionIn m) f) before a after → Does m (listsOf (sessionIn m) f) before a m after
+lists-do m f h = record { answers = h; next = lists-keep (sessionIn m) f .is; left = λ _. refl }
 
 -- ---- the whole call
 
 resultOf : Decided → Result
 resultOf d = record { number = d .number; bytes = bytesOf (d .reply); next = d .next }
 
-abbrev answerFrom : Session → ℕ → Result → Answer
-answerFrom s k x = record { number = x .number; len = length (x .bytes); next = cond (eqb (x .number) 0) (nextOf s k (x .next)) s }
+abbrev answerFrom : Result → Answer
+answerFrom x = record { number = x .number; len = length (x .bytes) }
 
 step-is : (v : P.Session) (r : List ℕ) (room : ℕ) (d : Decided) → 512 ≤ room → decideOf v r ≡ d → stepOf v r room ≡ resultOf d
 unfolding stepOf resultOf
 step-is v r room d h e = rw (le-ltb room 512 h) (ap (λ (x : Decided). record { number = x .number; bytes = bytesOf (x .reply); next = x .next }) e)
 
-pub permitted : {s : Session} {r before : List ℕ} {a : Answer} {after : List ℕ} (k : ℕ) (d : Decided) → 512 ≤ length before → decideOf (view s) r ≡ d → kindOf r ≡ k → Says s k d before a after → Permitted s r before a after
+pub permitted : {m : Memory} {r before : List ℕ} {a : Answer} {m′ : Memory} {after : List ℕ} (d : Decided) → 512 ≤ length before → decideOf (sessionIn m) r ≡ d → Does m d before a m′ after → Permitted m r before a m′ after
 unfolding resultOf
-permitted {s} {r} {before} {a} {after} k d room e f h =
-    let x = step-is (view s) r (length before) d room e in
+permitted {m} {r} {before} d room e h =
+    let x = sym (step-is (sessionIn m) r (length before) d room e) in
     record {
-      answer = h .answer ∙ ap (λ (n : ℕ). answerFrom s n (resultOf d)) (sym f) ∙ ap (answerFrom s (kindOf r)) (sym x);
-      bytes = h .bytes ∙ ap (λ (y : Result). over (y .bytes) before) (sym x);
+      answer = h .answers .answer ∙ ap answerFrom x;
+      bytes = h .answers .bytes ∙ ap (λ (y : Result). over (y .bytes) before) x;
+      next = h .next ∙ ap (λ (y : Result). y .next) x;
+      left = λ n. h .left (λ z. n (ap (λ (y : Answer). y .number) (h .answers .answer) ∙ z));
     }
 
-pub no-room : {s : Session} {r before : List ℕ} {n : ℕ} → n ≡ 14 → length before < 512 → Permitted s r before (record { number = n; len = 0; next = s }) before
-unfolding stepOf over
-no-room {s} {r} {before} e h =
-    let x : stepOf (view s) r (length before) ≡ record { number = 14; bytes = []; next = view s } = rw (lt-ltb (length before) 512 h) in
+-- a record of the kind that was read
+pub goes : {m : Memory} {r before : List ℕ} {a : Answer} {m′ : Memory} {after : List ℕ} {n : ℕ} (k : ℕ) → 512 ≤ length before → n ≡ kindIn r → n ≡ suc k → Does m (arm (sessionIn m) r (suc k)) before a m′ after → Permitted m r before a m′ after
+goes {m} {r} k room e f h = permitted (arm (sessionIn m) r (suc k)) room (decides (sessionIn m) r (suc k) (formed k r e f)) h
+
+pub no-room : {m : Memory} {r before : List ℕ} {n : ℕ} → n ≡ 14 → length before < 512 → Permitted m r before (record { number = n; len = 0 }) m before
+unfolding over
+no-room {m} {r} {before} e h =
+    let x = sym (nothing-written (sessionIn m) r (length before) h) in
     record {
-      answer = ap (λ (m : ℕ). record { number = m; len = 0; next = s }) e ∙ ap (answerFrom s (kindOf r)) (sym x);
-      bytes = ap (λ (y : Result). over (y .bytes) before) (sym x);
+      answer = ap (λ (k : ℕ). record { number = k; len = 0 }) e ∙ ap answerFrom x;
+      bytes = ap (λ (y : Result). over (y .bytes) before) x;
+      next = ap (λ (y : Result). y .next) x;
+      left = λ _. refl;
     }

@@ -1,5 +1,5 @@
 -- Which way each call goes, from its tests: the paper's decision at each of the code's exits.
-use Prim.Native.Nat.{ℕ, _+_}
+use Prim.Native.Nat.{ℕ}
 use mathlib.Core.Path.{_≡_, refl, sym, ap, _∙_}
 use mathlib.Core.List.{List, [], _∷_}
 use mathlib.Core.Bool.{Bool, true, false, not, _&&_}
@@ -15,12 +15,24 @@ use Rattle.paper.specs.Records.{Fields}
 use Rattle.paper.specs.State.{Session, isCurrent, onNow, modulus}
 use Rattle.paper.specs.Ranges.{configureRanges, beginRanges}
 use Rattle.paper.specs.Output.{quiet}
-use Rattle.paper.specs.Begin.{within, roomMade, begunSession}
+use Rattle.paper.specs.Begin.{within}
 use Rattle.paper.specs.Calls.{full, finished, drainedNow, discarded, dropped, finishedSession, drainedSession, configuredSession, discardedSession, abandonedSession, endedSession}
-use Rattle.paper.specs.Replies.{Reply}
-use Rattle.paper.specs.Step.{Decided, refused, accepted, unless, configureRefusal, configureOf, heldBy, beginRefusal, begunOf, beginOf, finishAt, finishOf, drainOf, discardOf, endOf, abandonOf}
+use Rattle.paper.specs.Step.{Decided, refused, accepted, unless, configureRefusal, configureOf, heldBy, beginRefusal, beginOf, finishAt, finishOf, drainOf, discardOf, endOf, abandonOf}
 use Rattle.paper.proofs.Ways.{begun}
-use Rattle.session.proofs.Saying.{first-yes, first-no, first-end}
+
+-- ---- an order of refusals, one test at a time
+
+pub first-yes : (b : Bool) (n : ℕ) (ts : List Test) → b ≡ true → first (b gives n ∷ ts) ≡ n
+unfolding first
+first-yes b n ts e = rw e
+
+pub first-no : (b : Bool) (n : ℕ) (ts : List Test) → b ≡ false → first (b gives n ∷ ts) ≡ first ts
+unfolding first
+first-no b n ts e = rw e
+
+pub first-end : first [] ≡ 0
+unfolding first
+first-end = refl
 
 module _ (v : Session) where
   -- refused with the first number that the order gives, or not refused

@@ -1,8 +1,8 @@
-pub mod View
 pub mod Numbered
-pub mod Parts
+pub mod View
 pub mod Said
+pub mod Parts
 pub mod Slices
 pub mod Written
 pub mod Starts
-pub mod Runs
+pub mod Sequence

@@ -1,8 +1,9 @@
 -- A begin as the code goes through it: what has been read and tested at each stage.
-use Prim.Native.Nat.{ℕ, _+_}
+use Prim.Native.Nat.{ℕ, _+_, _≤_}
+use lib.IntN.{ℤ}
 use mathlib.Core.Path.{_≡_}
-use mathlib.Core.List.{List}
-use mathlib.Core.Bool.{Bool, true, false, cond, _&&_}
+use mathlib.Core.List.{List, _++_}
+use mathlib.Core.Bool.{Bool, true, false, cond, not, _&&_}
 use lib.Dec.{eqb}
 use Rattle.paper.specs.declared.Prev.{Prev}
 use Rattle.paper.specs.declared.Prev.the-variants as Prev
@@ -18,15 +19,22 @@ use Rattle.paper.specs.Poc.{in32}
 use Rattle.paper.specs.Begin.{msb, poc, wishes, within}
 use Rattle.paper.specs.Begin as Begin
 use Rattle.paper.specs.Step.{heldBy}
-use Rattle.store.specs.declared.Wanted16.{Wanted16}
-use Rattle.store.specs.Sets.{Few, wishesIn}
-use Rattle.session.specs.declared.Session.{Session}
+use Rattle.paper.specs.State.{Session}
+use Rattle.paper.specs.Output.{beforeDecoding}
+use Rattle.paper.specs.Replies.{framed, tailBytes}
+use Rattle.derivation.specs.declared.rows.Refs.{Refs}
+use Rattle.store.specs.declared.Sizes.{Sizes}
+use Rattle.store.specs.Shelf.{word, stored}
+use Rattle.store.specs.Runs.{wishesIn}
 use Rattle.session.specs.declared.reading.Head.{Head}
-use Rattle.session.specs.declared.reading.Wanting.{Wanting}
+use Rattle.session.specs.declared.Answer.{Answer}
+use Rattle.session.specs.declared.writing.Told.{Told}
 use Rattle.session.specs.declared.starting.Flags.{Flags}
 use Rattle.session.specs.declared.starting.Start.{Start}
 use Rattle.session.specs.Parts.{headOf}
-use Rattle.session.specs.View.{view}
+use Rattle.session.specs.View.{flagOf, limitsAt}
+use Rattle.session.specs.Said.{Says}
+use Rattle.session.specs.Written.{begunPart}
 
 abbrev pub flagsFrom : Bool → Bool → Head → Flags
 flagsFrom start ended h =
@@ -48,8 +56,11 @@ abbrev pub currentFrom : ℕ → Head → Start → Current
 currentFrom next h t =
     record { serial = aSerial next; surface = h .surface; poc = t .poc; lsb = h .lsb; msb = t .msb; output = t .flags .output; valid = t .flags .valid }
 
-abbrev pub wantedFrom : Head → Wanting → Wanted16
-wantedFrom h w = record { items = w .items; neg = h .neg; pos = h .pos; lt = h .lt }
+abbrev pub toldFrom : ℕ → Start → Told
+toldFrom next t = record { poc = t .poc; flags = flagsNumber (t .flags); serial = aSerial next }
+
+abbrev pub refsFrom : Sizes → Refs
+refsFrom x = record { before = x .before; after = x .after; long = x .long }
 
 -- none of 1, 3, 5, 8 and 7
 pub record Passed (s : Session) (r : List ℕ) : Type 0 where
@@ -57,20 +68,25 @@ pub record Passed (s : Session) (r : List ℕ) : Type 0 where
   pub idle : isCurrent (s .current) ≡ false
   pub ranges : beginRanges (modulus (s .limits)) (fieldsOf r) ≡ true
   pub roomy : eqb (s .next) (missing .0) ≡ false
-  pub free : anyB (heldBy (fieldsOf r .surface)) (view s .store) ≡ false
+  pub free : anyB (heldBy (fieldsOf r .surface)) (s .store) ≡ false
 
 -- and the flags, the MSB and the POC, which lie in i32
 pub record Placed (s : Session) (r : List ℕ) (h : Head) (t : Start) : Type 0 where
   pub passed : Passed s r
   pub head : h ≡ headOf r
-  pub flags : t .flags ≡ flagsFrom (s .start) (s .ended) h
-  pub msb : t .msb ≡ Begin.msb (view s) (fieldsOf r)
-  pub poc : t .poc ≡ Begin.poc (view s) (fieldsOf r)
+  pub flags : t .flags ≡ flagsFrom (s .atStart) (s .ended) h
+  pub msb : t .msb ≡ Begin.msb s (fieldsOf r)
+  pub poc : t .poc ≡ Begin.poc s (fieldsOf r)
   pub inside : (in32 (t .msb) && in32 (t .poc)) ≡ true
 
 -- and the wishes, all of which do
-pub record Wished (s : Session) (r : List ℕ) (h : Head) (t : Start) (w : Wanted16) : Type 0 where
+pub record Wished (s : Session) (r : List ℕ) (h : Head) (t : Start) (ps : List ℤ) (hs : List ℕ) : Type 0 where
   pub placed : Placed s r h t
-  pub within : within (view s) (fieldsOf r) ≡ true
-  pub few : Few w
-  pub wishes : wishesIn w ≡ wishes (view s) (fieldsOf r)
+  pub within : within s (fieldsOf r) ≡ true
+  pub few : h .neg + h .pos + h .lt ≤ 16
+  pub wishes : wishesIn ps hs (h .neg) (h .pos) (h .lt) ≡ wishes s (fieldsOf r)
+
+-- step 5 and the reply, where the two runs of the sets are us and vs
+pub record Tells (h us vs p : List ℕ) (t : Start) (x : Sizes) (before : List ℕ) (a : Answer) (p′ after : List ℕ) : Type 0 where
+  pub pics : stored p′ ≡ beforeDecoding (t .flags .over && not (flagOf (word h 2))) (t .flags .prior) (limitsAt h) (stored p) .pics
+  pub says : Says (framed 258 0 (begunPart (toldFrom (word h 3) t) x us vs ++ tailBytes (beforeDecoding (t .flags .over && not (flagOf (word h 2))) (t .flags .prior) (limitsAt h) (stored p) .tail))) before a after

@@ -1,92 +1,125 @@
--- The code's session and the paper's: one function from the one to the other, and how the paper's next session is laid out in the code's.
-use Prim.Native.Nat.{ℕ}
-use mathlib.Core.List.{List, _++_}
-use mathlib.Core.Bool.{Bool, cond, _||_}
-use lib.ListN.{length}
+-- The memory that a session lies in, and the paper's session that it is: every memory is some session. A flag is on unless its word is 0, a number with less than 32
+-- bits is the low bits of its word.
+use Prim.Native.Nat.{ℕ, _+_, _%_}
+use mathlib.Core.Bool.{Bool, true, false, cond, not}
+use mathlib.Core.List.{List}
 use lib.Dec.{eqb}
-use Rattle.arrays.specs.Pad.{pad}
-use Rattle.paper.specs.declared.Picture.{Picture}
-use Rattle.paper.specs.declared.Prev.{Prev}
-use Rattle.paper.specs.declared.Now.the-variants as Now
-use Rattle.paper.specs.State.{Refs as Sets3}
+use mir.Syntax.{w32}
+use mir.Val.{toZ}
+use Rattle.paper.specs.Numbers.{aSerial, aSurface}
 use Rattle.paper.specs.State as P
+use Rattle.paper.specs.declared.Limits.{Limits}
+use Rattle.paper.specs.declared.Prev.{Prev}
+use Rattle.paper.specs.declared.Prev.the-variants as Prev
+use Rattle.paper.specs.declared.Current.{Current}
+use Rattle.paper.specs.declared.Now.{Now}
+use Rattle.paper.specs.declared.Now.the-variants as Now
 use Rattle.derivation.specs.declared.rows.Refs.{Refs}
-use Rattle.derivation.specs.Lists.{refsIn, blankRefs}
-use Rattle.store.specs.declared.Store.{Store}
-use Rattle.store.specs.Store.{blank, noSerial}
-use Rattle.store.specs.Store as S
-use Rattle.session.specs.declared.Session.{Session}
+use Rattle.derivation.specs.Lists.{refsIn}
+use Rattle.store.specs.Shelf.{word, stored}
+use Rattle.store.specs.Shelf as Shelf
 
--- what a session says, whatever it holds
-abbrev pub view : Session → P.Session
-view s =
+abbrev pub flagOf : ℕ → Bool
+flagOf x = Shelf.flagOf x
+
+abbrev pub flagWord : Bool → ℕ
+flagWord b = Shelf.flagWord b
+
+-- the words beside the store and the run of the sets, that run, and the store's words
+pub record Memory : Type 0 where
+  pub head : List ℕ
+  pub sets : List ℕ
+  pub places : List ℕ
+
+abbrev pub memory : List ℕ → List ℕ → List ℕ → Memory
+memory h xs t = record { head = h; sets = xs; places = t }
+
+-- what the words beside the store say, part by part
+
+abbrev pub limitsAt : List ℕ → Limits
+limitsAt h = record { k = word h 4 % 256; capacity = word h 5 % 256; buffering = word h 6 % 256; reorder = word h 7 % 256; latency = word h 8 % 65536 }
+
+abbrev pub prevAt : List ℕ → Prev
+prevAt h = cond (flagOf (word h 9)) (Prev.Tid0 (word h 10 % 65536) (toZ w32 (word h 11))) Prev.Nothing
+
+abbrev pub currentAt : List ℕ → Current
+currentAt h =
     record {
-      configured = s .configured;
-      limits = s .limits;
-      store = S.view (s .store);
-      current = s .current;
-      refs = refsIn (s .refs);
-      prev = s .prev;
-      atStart = s .start;
-      ended = s .ended;
-      next = s .next;
+      serial = aSerial (word h 13);
+      surface = aSurface (word h 14);
+      poc = toZ w32 (word h 15);
+      lsb = word h 16 % 65536;
+      msb = toZ w32 (word h 17);
+      output = flagOf (word h 18);
+      valid = flagOf (word h 19);
     }
 
--- pictures and sets laid out: blank behind the last
-abbrev pub packed : List Picture → Store
-packed ps = record { pics = pad 16 blank ps; len = length ps }
+abbrev pub nowAt : List ℕ → Now
+nowAt h = cond (flagOf (word h 12)) (Now.Is (currentAt h)) Now.Idle
 
-abbrev pub packedRefs : Sets3 → Refs
-packedRefs x = record { items = pad 16 noSerial (x .before ++ (x .after ++ x .ltCurr)); before = length (x .before); after = length (x .after); long = length (x .ltCurr) }
+abbrev pub refsAt : List ℕ → Refs
+refsAt h = record { before = word h 20 % 256; after = word h 21 % 256; long = word h 22 % 256 }
 
--- a session of the paper's laid out whole
-abbrev pub laid : P.Session → Session
-laid x =
+-- all of it
+pub record Front : Type 0 where
+  pub configured : Bool
+  pub limits : Limits
+  pub current : Now
+  pub refs : Refs
+  pub prev : Prev
+  pub start : Bool
+  pub ended : Bool
+  pub next : ℕ
+
+unfoldable pub frontIn : List ℕ → Front
+frontIn h =
     record {
-      configured = x .configured;
-      limits = x .limits;
-      store = packed (x .store);
-      current = x .current;
-      refs = packedRefs (x .refs);
-      prev = x .prev;
-      start = x .atStart;
-      ended = x .ended;
-      next = x .next;
+      configured = flagOf (word h 0);
+      limits = limitsAt h;
+      current = nowAt h;
+      refs = refsAt h;
+      prev = prevAt h;
+      start = flagOf (word h 1);
+      ended = flagOf (word h 2);
+      next = word h 3;
     }
 
--- the kinds that hand the store on as it came, and those that hand the sets on: lists, end of sequence, abandon
-abbrev pub keepsStore : ℕ → Bool
-keepsStore k = eqb k 3 || eqb k 7 || eqb k 8
-
-abbrev pub keepsRefs : ℕ → Bool
-keepsRefs k = eqb k 3 || eqb k 7
-
--- after an accepted record of kind k
-abbrev pub nextOf : Session → ℕ → P.Session → Session
-nextOf s k x =
+-- the paper's session
+abbrev pub sessionOf : Front → List ℕ → List ℕ → P.Session
+sessionOf f xs t =
     record {
-      configured = x .configured;
-      limits = x .limits;
-      store = cond (keepsStore k) (s .store) (packed (x .store));
-      current = x .current;
-      refs = cond (keepsRefs k) (s .refs) (packedRefs (x .refs));
-      prev = x .prev;
-      start = x .atStart;
-      ended = x .ended;
-      next = x .next;
+      configured = f .configured;
+      limits = f .limits;
+      store = stored t;
+      current = f .current;
+      refs = refsIn xs (f .refs);
+      prev = f .prev;
+      atStart = f .start;
+      ended = f .ended;
+      next = f .next;
     }
 
--- with no picture current, this store and this previous Tid0 picture
-abbrev pub idled : Session → Store → Prev → Session
-idled s t q =
-    record {
-      configured = s .configured;
-      limits = s .limits;
-      store = t;
-      current = Now.Idle;
-      refs = blankRefs;
-      prev = q;
-      start = s .start;
-      ended = s .ended;
-      next = s .next;
-    }
+abbrev pub sessionIn : Memory → P.Session
+sessionIn m = sessionOf (frontIn (m .head)) (m .sets) (m .places)
+
+-- how a call changes the words beside the store: with no picture current and this previous Tid0 picture; with these limits; with this picture current; after end of
+-- sequence
+
+abbrev pub noSizes : Refs
+noSizes = record { before = 0; after = 0; long = 0 }
+
+abbrev pub idleFront : Front → Prev → Front
+idleFront f q =
+    record { configured = f .configured; limits = f .limits; current = Now.Idle; refs = noSizes; prev = q; start = f .start; ended = f .ended; next = f .next }
+
+abbrev pub configuredFront : Front → Limits → Front
+configuredFront f l =
+    record { configured = true; limits = l; current = f .current; refs = f .refs; prev = f .prev; start = f .start; ended = f .ended; next = f .next }
+
+abbrev pub begunFront : Front → Current → Refs → ℕ → Front
+begunFront f c x n =
+    record { configured = f .configured; limits = f .limits; current = Now.Is c; refs = x; prev = f .prev; start = false; ended = false; next = n }
+
+abbrev pub endedFront : Front → Front
+endedFront f =
+    record { configured = f .configured; limits = f .limits; current = f .current; refs = f .refs; prev = f .prev; start = f .start; ended = true; next = f .next }

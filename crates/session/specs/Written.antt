@@ -1,39 +1,41 @@
 -- The parts of a reply as the code writes them.
-use Prim.Native.Nat.{ℕ, _+_, _≤_}
+use Prim.Native.Nat.{ℕ, _+_, _-_, _≤_}
 use mathlib.Core.Path.{_≡_}
 use mathlib.Core.List.{List, [], _∷_, _++_}
-use lib.ListN.{length, take, drop}
-use Rattle.arrays.specs.Pad.{used}
-use Rattle.paper.specs.declared.Serial.{Serial}
-use Rattle.paper.specs.Numbers.{bytes32, signed32, serialNos}
+use lib.ListN.{length, getD}
+use Rattle.paper.specs.Words.{table}
+use Rattle.paper.specs.Numbers.{bytes32, signed32}
 use Rattle.paper.specs.Replies.{words}
-use Rattle.derivation.specs.declared.rows.RefList.{RefList}
-use Rattle.derivation.specs.Lists.{HoldsList}
-use Rattle.store.specs.declared.Sets.{Sets}
+use Rattle.store.specs.declared.Sizes.{Sizes}
+use Rattle.store.specs.declared.Tally.{Tally}
 use Rattle.session.specs.declared.writing.Told.{Told}
 
-abbrev pub listIn : RefList → List Serial
-listIn l = used (l .len) (l .items)
+-- a tail that fits: counts are bytes, and all of it has at most 350
+pub record FewTail (c : Tally) : Type 0 where
+  pub handed : c .handed ≤ 16
+  pub thrown : c .thrown ≤ 17
+  pub released : c .released ≤ 17
 
--- a list that holds what it holds
-pub record Listable (l : RefList) : Type 0 where
-  pub holds : HoldsList l (listIn l)
+-- the members of all five sets are sixteen at most
+pub record FewMembers (x : Sizes) : Type 0 where
+  pub all : x .before + x .after + x .long + x .foll + x .«lt_foll» ≤ 16
 
 abbrev pub toldBytes : Told → List ℕ
 toldBytes t = signed32 (t .poc) ++ (t .flags ∷ []) ++ bytes32 (t .serial .0)
 
--- neither run is longer than its sixteen places
-pub record FewMembers (x : Sets) : Type 0 where
-  pub refs : x .refs .before + x .refs .after + x .refs .long ≤ 16
-  pub rest : x .rest .foll + x .rest .«lt_foll» ≤ 16
+abbrev pub sizesBytes : Sizes → List ℕ
+sizesBytes x = x .before ∷ x .after ∷ x .foll ∷ x .long ∷ x .«lt_foll» ∷ []
 
-abbrev pub memberBytes : Sets → List ℕ
-memberBytes x =
-    words (serialNos (take (x .refs .before + x .refs .after) (x .refs .items)))
-    ++ words (serialNos (take (x .rest .foll) (x .rest .items)))
-    ++ words (serialNos (take (x .refs .long) (drop (x .refs .before + x .refs .after) (x .refs .items))))
-    ++ words (serialNos (take (x .rest .«lt_foll») (drop (x .rest .foll) (x .rest .items))))
+-- n numbers of a run, from a place on
+abbrev pub numbersFrom : List ℕ → ℕ → ℕ → List ℕ
+numbersFrom xs from n = table (λ (i : ℕ). getD xs (from + i) 0) n
 
-abbrev pub begunPart : Told → Sets → List ℕ
-begunPart t x =
-    toldBytes t ++ (x .refs .before ∷ x .refs .after ∷ x .rest .foll ∷ x .refs .long ∷ x .rest .«lt_foll» ∷ []) ++ memberBytes x
+abbrev pub memberBytes : Sizes → List ℕ → List ℕ → List ℕ
+memberBytes x us vs =
+    words (numbersFrom us 0 (x .before + x .after))
+    ++ words (numbersFrom vs 0 (x .foll))
+    ++ words (numbersFrom us (x .before + x .after) (x .long))
+    ++ words (numbersFrom vs (x .foll) (x .«lt_foll»))
+
+abbrev pub begunPart : Told → Sizes → List ℕ → List ℕ → List ℕ
+begunPart t x us vs = toldBytes t ++ sizesBytes x ++ memberBytes x us vs

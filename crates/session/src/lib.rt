@@ -1,6 +1,7 @@
-// Layer 3, the session: one call takes a session, a lent record and a lent reply buffer, and answers a number, the reply's length and the next
-// session. Any bytes get an answer, and any value of the session's type is safe.
-mod ending;
+// Layer 3, the session: one call takes lent memory that a session lies in, a lent record and a lent reply buffer, and answers a number and the reply's length. Any
+// bytes get an answer, and any memory is safe: its words are taken as some session, whatever they are.
+mod closing;
+mod heads;
 mod listing;
 mod reading;
 mod starting;
@@ -9,33 +10,18 @@ mod writing;
 ghost use mathlib.Core.Path.{_≡_};
 ghost use Rattle.paper.specs.State.{fresh as freshSession};
 ghost use Rattle.session.specs.Numbered.{numberOf};
-ghost use Rattle.session.specs.View.{laid};
+ghost use Rattle.session.specs.View.{memory, sessionIn};
 ghost use Rattle.session.specs.Said.{Permitted};
-use derivation::rows::Refs;
-use paper::Limits;
-use paper::Now;
-use paper::Prev;
 use store::Store;
 
-// `start`: the next begin is first in the bitstream; `ended`: it is first after end of sequence; `next`: its serial. The sets `refs` are those of the
-// current picture.
-pub struct Session {
-    pub configured: bool,
-    pub limits: Limits,
-    pub store: Store,
-    pub current: Now,
-    pub refs: Refs,
-    pub prev: Prev,
-    pub start: bool,
-    pub ended: bool,
-    pub next: u32,
-}
+// The words of a session beside its store and its sets: 0 configured, 1 start, 2 ended, 3 next serial, 4 to 8 limits, 9 to 11 the previous Tid0 picture, 12 to
+// 19 the current picture, 20 to 22 the sizes of its sets StCurrBefore, StCurrAfter and LtCurr, whose members lie one behind the other in a run of their own.
+pub const HEAD: usize = 23;
 
 // "The call answers the refusal number, 0 when accepted, and the reply's length in bytes."
 pub struct Answer {
     pub number: u16,
     pub len: usize,
-    pub next: Session,
 }
 
 // "Numbers a session says no with", from 1 to 14.
@@ -78,52 +64,47 @@ pub fn number(r: Refusal) -> u16
     }
 }
 
-// A session that has heard nothing.
-pub fn fresh() -> Session
-    ensures { λ r. ⌜ r ≡ laid freshSession ⌝ }
+// Makes the memory a session that has heard nothing, whatever it held.
+pub fn fresh(
+    head: &mut [u32; HEAD],
+    sets: &mut [u32; Store::CAPACITY],
+    places: &mut [u32; Store::WORDS],
+)
+    ensures { λ _. ⌜ sessionIn (memory (now (head .exit)) (now (sets .exit)) (now (places .exit))) ≡ freshSession ⌝ }
 {
-    let limits = Limits {
-        k: 0,
-        capacity: 0,
-        buffering: 0,
-        reorder: 0,
-        latency: 0,
-    };
     let store = Store::empty();
-    let refs = Refs::none();
-    Session {
-        configured: false,
-        limits,
-        store,
-        current: Now::Idle,
-        refs,
-        prev: Prev::Nothing,
-        start: true,
-        ended: false,
-        next: 0,
-    }
+    *head = [0; HEAD];
+    head[1] = 1;
+    *sets = [0; Store::CAPACITY];
+    let words = store.words;
+    *places = words;
 }
 
 // One call: "14, 13, then" what the record's kind says.
-pub fn step(s: Session, msg: &[u8], reply: &mut [u8]) -> Answer
-    ensures { λ r. ⌜ Permitted s (now (msg .entry)) (now (reply .entry)) r (now (reply .exit)) ⌝ }
+pub fn step(
+    head: &mut [u32; HEAD],
+    sets: &mut [u32; Store::CAPACITY],
+    places: &mut [u32; Store::WORDS],
+    msg: &[u8],
+    reply: &mut [u8],
+) -> Answer
+    ensures { λ r. ⌜ Permitted (memory (now (head .entry)) (now (sets .entry)) (now (places .entry))) (now (msg .entry)) (now (reply .entry)) r (memory (now (head .exit)) (now (sets .exit)) (now (places .exit))) (now (reply .exit)) ⌝ }
 {
     if reply.len() < Store::REPLY {
         return Answer {
             number: number(Refusal::NoRoom),
             len: 0,
-            next: s,
         };
     }
     match reading::kind_of(msg) {
-        1 => ending::configure(s, msg, reply),
-        2 => starting::begin(s, msg, reply),
-        3 => listing::lists(s, msg, reply),
-        4 => ending::finish(s, reply),
-        5 => ending::drain(s, reply),
-        6 => ending::discard(s, reply),
-        7 => ending::end(s, reply),
-        8 => ending::abandon(s, reply),
-        _ => writing::refuse(s, reply, 511, Refusal::Malformed),
+        1 => closing::configure(head, places, msg, reply),
+        2 => starting::begin(head, sets, places, msg, reply),
+        3 => listing::lists(head, sets, msg, reply),
+        4 => closing::finish(head, places, reply),
+        5 => closing::drain(head, places, reply),
+        6 => closing::discard(head, places, reply),
+        7 => closing::end(head, reply),
+        8 => closing::abandon(head, reply),
+        _ => writing::refuse(reply, 511, Refusal::Malformed),
     }
 }

@@ -1,18 +1,20 @@
 // Lists: what may be refused, and the two reference lists (8.3.4).
 use crate::Answer;
+use crate::HEAD;
 use crate::Refusal;
-use crate::Session;
+use crate::heads;
 use crate::reading;
 use crate::writing;
 use derivation::flag_bytes;
 use derivation::rows;
-use derivation::rows::RefList;
 use derivation::rows::Refs;
 use paper::Current;
 use paper::Now;
 use paper::Serial;
+use store::Store;
 ghost use mathlib.Core.Path.{_≡_};
 ghost use mathlib.Core.Bool.{true, cond, not, _&&_, _||_};
+ghost use mathlib.Core.List.{List};
 ghost use Prim.Native.Nat.{ℕ, _≤_};
 ghost use lib.Dec.{eqb, leb};
 ghost use Rattle.paper.specs.declared.Serial.{Serial};
@@ -21,9 +23,13 @@ ghost use Rattle.paper.specs.Records.{sliceOf};
 ghost use Rattle.paper.specs.Ranges.{listsRanges};
 ghost use Rattle.paper.specs.RefLists.{list0, list1};
 ghost use Rattle.paper.specs.Step.{listsAt, listsOf};
-ghost use Rattle.derivation.specs.Lists.{refsIn, HoldsList};
-ghost use Rattle.session.specs.View.{view};
-ghost use Rattle.session.specs.Said.{Says, Roomy, WellFormed};
+ghost use Rattle.derivation.specs.Lists.{refsIn};
+ghost use Rattle.store.specs.Tails.{serialsIn};
+ghost use Rattle.paper.specs.State as P;
+ghost use Rattle.paper.specs.Replies.{bytesOf};
+ghost use Rattle.paper.specs.Replies.Reply.{Listed};
+ghost use Rattle.session.specs.View.{memory, sessionIn};
+ghost use Rattle.session.specs.Said.{Says, Answers, Roomy, WellFormed};
 ghost use Rattle.session.specs.Slices.{AsksAs, numberIn, listsNumber};
 
 // What a lists record says of one list, but for its entry bytes.
@@ -91,16 +97,16 @@ fn bad_entries(msg: &[u8], n: usize) -> bool
 }
 
 // "5, 10, 11 for list 0 then 1, 12 likewise".
-fn judged(refs: Refs, msg: &[u8]) -> Verdict
+fn judged(run: &[u32; Store::CAPACITY], refs: Refs, msg: &[u8]) -> Verdict
     requires { ⌜ WellFormed 3 (now msg) ⌝ }
-    ensures { λ r. ⌜ ((c : Serial) → numberIn r ≡ listsNumber (refsIn refs) c (sliceOf (now (msg .entry)))) ⌝ }
+    ensures { λ r. ⌜ ((c : Serial) → numberIn r ≡ listsNumber (refsIn (now (run .entry)) refs) c (sliceOf (now (msg .entry)))) ⌝ }
 {
     if !lists_ranges(msg) {
         return Verdict::No(Refusal::OutOfRange);
     }
     let x = ask0(msg);
     let y = ask1(msg);
-    let n = rows::candidate_count(refs, flag_bytes::bit2(wire::byte(msg, 5)));
+    let n = rows::candidate_count(run, refs, flag_bytes::bit2(wire::byte(msg, 5)));
     if x.uses & (n == 0) {
         return Verdict::No(Refusal::NoCandidate);
     }
@@ -113,69 +119,104 @@ fn judged(refs: Refs, msg: &[u8]) -> Verdict
     Verdict::Fine
 }
 
-// List 0 of an accepted record.
-fn first_list(refs: Refs, c: Serial, msg: &[u8]) -> RefList
-    requires { ⌜ WellFormed 3 (now msg) × (listsNumber (refsIn refs) c (sliceOf (now msg)) ≡ 0) ⌝ }
-    ensures { λ r. ⌜ HoldsList r (list0 (refsIn refs) c (sliceOf (now (msg .entry)))) ⌝ }
+// List 0 of an accepted record; answers how many places it has.
+fn first_list(
+    run: &[u32; Store::CAPACITY],
+    refs: Refs,
+    c: Serial,
+    msg: &[u8],
+    into: &mut [u32; Store::CAPACITY],
+) -> usize
+    requires { ⌜ WellFormed 3 (now msg) × (listsNumber (refsIn (now run) refs) c (sliceOf (now msg)) ≡ 0) ⌝ }
+    ensures { λ r. ⌜ (r ≤ 16) × (serialsIn (now (into .exit)) r ≡ list0 (refsIn (now (run .entry)) refs) c (sliceOf (now (msg .entry)))) ⌝ }
 {
     let x = ask0(msg);
     if !x.uses {
-        return rows::no_list();
+        return 0;
     }
     let own = flag_bytes::bit2(wire::byte(msg, 5));
-    let n = rows::candidate_count(refs, own);
+    let n = rows::candidate_count(run, refs, own);
     let last = rows::ends_with_own(own, x.modify, x.active, n);
-    let a = 8 + reading::count0(msg);
-    rows::build_ref_pic_list(refs, c, own, false, last, x.active, x.modify, &msg[8..a])
+    let e = 8 + reading::count0(msg);
+    let k = x.active;
+    let m = x.modify;
+    rows::build_ref_pic_list(run, refs, c, own, false, last, k, m, &msg[8..e], into);
+    k as usize
 }
 
-// List 1 of an accepted record.
-fn second_list(refs: Refs, c: Serial, msg: &[u8]) -> RefList
-    requires { ⌜ WellFormed 3 (now msg) × (listsNumber (refsIn refs) c (sliceOf (now msg)) ≡ 0) ⌝ }
-    ensures { λ r. ⌜ HoldsList r (list1 (refsIn refs) c (sliceOf (now (msg .entry)))) ⌝ }
+// List 1 of an accepted record; answers how many places it has.
+fn second_list(
+    run: &[u32; Store::CAPACITY],
+    refs: Refs,
+    c: Serial,
+    msg: &[u8],
+    into: &mut [u32; Store::CAPACITY],
+) -> usize
+    requires { ⌜ WellFormed 3 (now msg) × (listsNumber (refsIn (now run) refs) c (sliceOf (now msg)) ≡ 0) ⌝ }
+    ensures { λ r. ⌜ (r ≤ 16) × (serialsIn (now (into .exit)) r ≡ list1 (refsIn (now (run .entry)) refs) c (sliceOf (now (msg .entry)))) ⌝ }
 {
     let y = ask1(msg);
     if !y.uses {
-        return rows::no_list();
+        return 0;
     }
     let own = flag_bytes::bit2(wire::byte(msg, 5));
     let a = 8 + reading::count0(msg);
     let b = a + reading::count1(msg);
-    rows::build_ref_pic_list(refs, c, own, true, false, y.active, y.modify, &msg[a..b])
+    let k = y.active;
+    let m = y.modify;
+    rows::build_ref_pic_list(run, refs, c, own, true, false, k, m, &msg[a..b], into);
+    k as usize
+}
+
+// The lists of an accepted record.
+fn listed(
+    run: &[u32; Store::CAPACITY],
+    refs: Refs,
+    c: Serial,
+    msg: &[u8],
+    reply: &mut [u8],
+) -> Answer
+    requires { ⌜ WellFormed 3 (now msg) × (listsNumber (refsIn (now run) refs) c (sliceOf (now msg)) ≡ 0) × Roomy (now reply) ⌝ }
+    ensures { λ r. ⌜ Says (bytesOf (Listed (list0 (refsIn (now (run .entry)) refs) c (sliceOf (now (msg .entry)))) (list1 (refsIn (now (run .entry)) refs) c (sliceOf (now (msg .entry)))))) (now (reply .entry)) r (now (reply .exit)) ⌝ }
+{
+    let mut x = [0u32; Store::CAPACITY];
+    let mut y = [0u32; Store::CAPACITY];
+    let n = first_list(run, refs, c, msg, &mut x);
+    let m = second_list(run, refs, c, msg, &mut y);
+    writing::put_lists(reply, &x, n, &y, m)
 }
 
 // Lists with a current picture.
-fn lists_at(s: Session, c: Current, msg: &[u8], reply: &mut [u8]) -> Answer
+fn lists_at(
+    run: &[u32; Store::CAPACITY],
+    refs: Refs,
+    c: Current,
+    msg: &[u8],
+    reply: &mut [u8],
+) -> Answer
     requires { ⌜ WellFormed 3 (now msg) × Roomy (now reply) ⌝ }
-    ensures { λ r. ⌜ Says s 3 (listsAt (view s) (sliceOf (now (msg .entry))) c) (now (reply .entry)) r (now (reply .exit)) ⌝ }
+    ensures { λ r. ⌜ ((s : P.Session) → s .refs ≡ refsIn (now (run .entry)) refs → Answers (listsAt s (sliceOf (now (msg .entry))) c) (now (reply .entry)) r (now (reply .exit))) ⌝ }
 {
-    let refs = s.refs;
     let serial = c.serial;
-    match judged(refs, msg) {
-        Verdict::No(why) => writing::refuse(s, reply, 259, why),
-        Verdict::Fine => {
-            let len = writing::put_lists(
-                reply,
-                first_list(refs, serial, msg),
-                second_list(refs, serial, msg),
-            );
-            Answer {
-                number: 0,
-                len,
-                next: s,
-            }
-        }
+    match judged(run, refs, msg) {
+        Verdict::No(why) => writing::refuse(reply, 259, why),
+        Verdict::Fine => listed(run, refs, serial, msg, reply),
     }
 }
 
-// Lists (8.3.4).
-pub(crate) fn lists(s: Session, msg: &[u8], reply: &mut [u8]) -> Answer
+// Lists (8.3.4): nothing of the session changes.
+pub(crate) fn lists(
+    head: &[u32; HEAD],
+    run: &[u32; Store::CAPACITY],
+    msg: &[u8],
+    reply: &mut [u8],
+) -> Answer
     requires { ⌜ WellFormed 3 (now msg) × Roomy (now reply) ⌝ }
-    ensures { λ r. ⌜ Says s 3 (listsOf (view s) (sliceOf (now (msg .entry)))) (now (reply .entry)) r (now (reply .exit)) ⌝ }
+    ensures { λ r. ⌜ ((t : List ℕ) → Answers (listsOf (sessionIn (memory (now (head .entry)) (now (run .entry)) t)) (sliceOf (now (msg .entry)))) (now (reply .entry)) r (now (reply .exit))) ⌝ }
 {
-    let current = s.current;
-    match current {
-        Now::Idle => writing::refuse(s, reply, 259, Refusal::NoCurrent),
-        Now::Is(c) => lists_at(s, c, msg, reply),
+    let refs = heads::refs_in(head);
+    match heads::now_in(head) {
+        Now::Idle => writing::refuse(reply, 259, Refusal::NoCurrent),
+        Now::Is(c) => lists_at(run, refs, c, msg, reply),
     }
 }

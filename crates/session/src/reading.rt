@@ -7,7 +7,6 @@ use paper::Limits;
 use paper::LongEntry;
 use paper::ShortEntry;
 use paper::Surface;
-use paper::Wish;
 use store::Store;
 ghost use mathlib.Core.Path.{_≡_};
 ghost use mathlib.Core.Bool.{true, cond, _&&_};
@@ -21,7 +20,7 @@ ghost use Rattle.paper.specs.Numbers.{u8};
 ghost use Rattle.paper.specs.Records.{kindOf, lengthOf, bodyOk, limitsOf, fieldsOf, shortAt, longAt, entries0, entries1};
 ghost use Rattle.paper.specs.Ranges.{longOk, falling, rising, beginRanges};
 ghost use Rattle.paper.specs.Sets.{wishesOf};
-ghost use Rattle.session.specs.Parts.{kindIn, headOf, shortsAt, longsAt, wanted, Filled, blankWanting, HoldsWishes};
+ghost use Rattle.session.specs.Parts.{kindIn, headOf, shortsAt, longsAt, Wants, WantsAll, HoldsWishes};
 
 // The fields of a begin before its entries.
 pub(crate) struct Head {
@@ -33,13 +32,6 @@ pub(crate) struct Head {
     pub(crate) neg: u8,
     pub(crate) pos: u8,
     pub(crate) lt: u8,
-}
-
-// Wishes read so far, and whether every POC among them lies in i32.
-pub(crate) struct Wanting {
-    pub(crate) items: [Wish; Store::CAPACITY],
-    pub(crate) len: usize,
-    pub(crate) inside: bool,
 }
 
 // How many entry bytes stand for list 0 in a lists record.
@@ -233,83 +225,111 @@ pub(crate) fn begin_ranges(msg: &[u8], k: u8) -> bool
     longs & (falling_all(msg, 16, neg) & rising_all(msg, 16 + 5 * neg, pos))
 }
 
-// One wish more, or that its POC lies outside.
-fn want(t: Wanting, w: Wanted) -> Wanting
-    requires { ⌜ t .len < 16 ⌝ }
-    ensures { λ r. ⌜ r ≡ wanted t w ⌝ }
+// How many POCs of wishes there are. The type says so of what is lent, and a proof is told it here.
+fn count_pocs(pocs: [i32; Store::CAPACITY]) -> usize
+    ensures { λ r. ⌜ (r ≡ 16) × (length pocs ≡ 16) ⌝ }
+{
+    Store::CAPACITY
+}
+
+// How many bytes beside them there are, likewise.
+fn count_hows(hows: [u8; Store::CAPACITY]) -> usize
+    ensures { λ r. ⌜ (r ≡ 16) × (length hows ≡ 16) ⌝ }
+{
+    Store::CAPACITY
+}
+
+// A wish at a place, if its POC lies in i32; answers whether it does.
+fn want(
+    w: Wanted,
+    i: usize,
+    pocs: &mut [i32; Store::CAPACITY],
+    hows: &mut [u8; Store::CAPACITY],
+) -> bool
+    requires { ⌜ i < 16 ⌝ }
+    ensures { λ r. ⌜ Wants w i (now (pocs .entry)) (now (hows .entry)) r (now (pocs .exit)) (now (hows .exit)) ⌝ }
 {
     match w {
+        Wanted::Outside => false,
         Wanted::Is(x) => {
-            let at = t.len;
-            let mut u = t;
-            u.items[at] = x;
-            u.len = at + 1;
-            u
-        }
-        Wanted::Outside => {
-            let at = t.len;
-            let mut u = t;
-            u.len = at + 1;
-            u.inside = false;
-            u
+            count_pocs(*pocs);
+            count_hows(*hows);
+            let poc = x.poc;
+            pocs[i] = poc;
+            hows[i] = how_of(x.used, x.whole);
+            true
         }
     }
 }
 
-// The wishes of n short-term entries, behind those that are there.
-fn want_shorts(t: Wanting, msg: &[u8], poc: i32, at: usize, n: usize) -> Wanting
-    requires { ⌜ (at < 1000) × (t .len + n ≤ 16) ⌝ }
-    ensures { λ r. ⌜ Filled t r (shortsAt poc (now (msg .entry)) at n) ⌝ }
+// Bit 0: used; bit 1: the whole POC is asked for.
+fn how_of(used: bool, whole: bool) -> u8
+    ensures { λ r. ⌜ r ≡ cond used 1 0 + cond whole 2 0 ⌝ }
 {
-    let mut u = t;
-    let mut i = 0;
-    while i < n {
-        u = want(u, wishing::short_wish(poc, short_entry(msg, at, i)));
-        i += 1;
-    }
-    u
+    let a = if used { 1 } else { 0 };
+    let b = if whole { 2 } else { 0 };
+    a + b
 }
 
-// The wishes of n long-term entries, behind those that are there.
-fn want_longs(t: Wanting, msg: &[u8], k: u8, poc: i32, at: usize, n: usize) -> Wanting
-    requires { ⌜ (at < 1000) × (t .len + n ≤ 16) ⌝ }
-    ensures { λ r. ⌜ Filled t r (longsAt (2 ^ (min k 16)) poc (now (msg .entry)) at n) ⌝ }
+// The wishes of the n short-term entries, in the first places; answers whether every POC of them lies in i32.
+fn want_shorts(
+    msg: &[u8],
+    poc: i32,
+    n: usize,
+    pocs: &mut [i32; Store::CAPACITY],
+    hows: &mut [u8; Store::CAPACITY],
+) -> bool
+    requires { ⌜ n ≤ 16 ⌝ }
+    ensures { λ r. ⌜ WantsAll (shortsAt poc (now (msg .entry)) 16 n) 0 (now (pocs .entry)) (now (hows .entry)) r (now (pocs .exit)) (now (hows .exit)) ⌝ }
 {
-    let mut u = t;
+    let mut inside = true;
     let mut i = 0;
     while i < n {
-        u = want(u, wishing::long_wish(k, poc, long_entry(msg, at, i)));
+        let w = wishing::short_wish(poc, short_entry(msg, 16, i));
+        inside = want(w, i, pocs, hows) & inside;
         i += 1;
     }
-    u
+    inside
 }
 
-// What the entries of a begin ask for.
-pub(crate) fn wishes(msg: &[u8], h: Head, k: u8, poc: i32) -> Wanting
+// The wishes of the n long-term entries, behind the `from` short-term ones; answers whether every POC of them lies in i32.
+fn want_longs(
+    msg: &[u8],
+    k: u8,
+    poc: i32,
+    from: usize,
+    n: usize,
+    pocs: &mut [i32; Store::CAPACITY],
+    hows: &mut [u8; Store::CAPACITY],
+) -> bool
+    requires { ⌜ from + n ≤ 16 ⌝ }
+    ensures { λ r. ⌜ WantsAll (longsAt (2 ^ (min k 16)) poc (now (msg .entry)) (16 + 5 * from) n) from (now (pocs .entry)) (now (hows .entry)) r (now (pocs .exit)) (now (hows .exit)) ⌝ }
+{
+    let at = 16 + 5 * from;
+    let mut inside = true;
+    let mut i = 0;
+    while i < n {
+        let w = wishing::long_wish(k, poc, long_entry(msg, at, i));
+        inside = want(w, from + i, pocs, hows) & inside;
+        i += 1;
+    }
+    inside
+}
+
+// What the entries of a begin ask for: neg, then pos, then lt ones; answers whether every POC lies in i32 (not number 6).
+pub(crate) fn wishes(
+    msg: &[u8],
+    h: Head,
+    k: u8,
+    poc: i32,
+    pocs: &mut [i32; Store::CAPACITY],
+    hows: &mut [u8; Store::CAPACITY],
+) -> bool
     requires { ⌜ (h ≡ headOf (now msg)) × (h .neg + h .pos + h .lt ≤ 16) ⌝ }
-    ensures { λ r. ⌜ HoldsWishes r (wishesOf (2 ^ (min k 16)) poc (fieldsOf (now (msg .entry)))) ⌝ }
+    ensures { λ r. ⌜ HoldsWishes (wishesOf (2 ^ (min k 16)) poc (fieldsOf (now (msg .entry)))) (h .neg) (h .pos) (h .lt) r (now (pocs .exit)) (now (hows .exit)) ⌝ }
 {
-    let neg = h.neg as usize;
-    let pos = h.pos as usize;
-    let lt = h.lt as usize;
-    let a = want_shorts(no_wishes(), msg, poc, 16, neg);
-    let b = want_shorts(a, msg, poc, 16 + 5 * neg, pos);
-    want_longs(b, msg, k, poc, 16 + 5 * (neg + pos), lt)
-}
-
-// No wish read yet.
-fn no_wishes() -> Wanting
-    ensures { λ r. ⌜ r ≡ blankWanting ⌝ }
-{
-    let w = Wish {
-        poc: 0,
-        used: false,
-        whole: false,
-    };
-    let items = [w; Store::CAPACITY];
-    Wanting {
-        items,
-        len: 0,
-        inside: true,
-    }
+    let shorts = h.neg as usize + h.pos as usize;
+    let a = want_shorts(msg, poc, shorts, pocs, hows);
+    let b = want_longs(msg, k, poc, shorts, h.lt as usize, pocs, hows);
+    a & b
 }

@@ -1,35 +1,33 @@
 // Begin: its refusals in their order, and its five steps.
 use crate::Answer;
+use crate::HEAD;
 use crate::Refusal;
-use crate::Session;
-use crate::ending;
+use crate::heads;
 use crate::reading;
 use crate::reading::Head;
-use crate::reading::Wanting;
 use crate::writing;
 use crate::writing::Told;
 use derivation::flag_bytes;
 use derivation::nal;
 use derivation::order;
 use derivation::order::Poc;
+use derivation::rows::Refs;
 use paper::Current;
-use paper::Now;
 use paper::Prev;
 use paper::Serial;
+use store::Sizes;
 use store::Store;
-use store::Wanted16;
 ghost use mathlib.Core.Path.{_≡_};
-ghost use mathlib.Core.Bool.{true, false, cond, _&&_};
-ghost use Prim.Native.Nat.{ℕ, _+_, _≤_};
+ghost use mathlib.Core.Bool.{cond};
+ghost use Prim.Native.Nat.{_+_};
 ghost use lib.Dec.{eqb};
-ghost use Rattle.paper.specs.Numbers.{flagAt};
+ghost use lib.ListN.{length};
 ghost use Rattle.paper.specs.Records.{fieldsOf};
-ghost use Rattle.paper.specs.Begin.{begunCurrent};
 ghost use Rattle.paper.specs.Step.{beginOf};
-ghost use Rattle.session.specs.View.{view};
-ghost use Rattle.session.specs.Said.{Says, Roomy};
-ghost use Rattle.session.specs.Parts.{headOf};
-ghost use Rattle.session.specs.Starts.{flagsFrom, flagsNumber, prevFrom, currentFrom, wantedFrom, Passed, Placed, Wished};
+ghost use Rattle.session.specs.View.{memory, sessionIn};
+ghost use Rattle.session.specs.Said.{Does, Roomy};
+ghost use Rattle.session.specs.Written.{FewMembers};
+ghost use Rattle.session.specs.Starts.{flagsFrom, flagsNumber, prevFrom, currentFrom, toldFrom, refsFrom, Passed, Placed, Wished, Tells};
 
 // Step 1's flags; `over`: IRAP with NoRaslOutputFlag.
 pub(crate) struct Flags {
@@ -109,109 +107,171 @@ fn next_after(n: u32) -> u32
     if n == Store::MISSING { 0 } else { n + 1 }
 }
 
-// The wishes that were read, as the store takes them.
-fn wanted_of(h: Head, w: Wanting) -> Wanted16
-    ensures { λ r. ⌜ r ≡ wantedFrom h w ⌝ }
+// What the reply says of the picture, but for its sets.
+fn told_of(next: u32, t: Start) -> Told
+    ensures { λ r. ⌜ r ≡ toldFrom next t ⌝ }
 {
-    let items = w.items;
-    Wanted16 {
-        items,
-        neg: h.neg as usize,
-        pos: h.pos as usize,
-        lt: h.lt as usize,
+    let f = t.flags;
+    Told {
+        poc: t.poc,
+        flags: flags_byte(f),
+        serial: Serial(next),
     }
+}
+
+// The sizes of the sets that lists draw on.
+fn refs_of(x: Sizes) -> Refs
+    requires { ⌜ FewMembers x ⌝ }
+    ensures { λ r. ⌜ r ≡ refsFrom x ⌝ }
+{
+    Refs {
+        before: x.before as u8,
+        after: x.after as u8,
+        long: x.long as u8,
+    }
+}
+
+// How many words a run has. The type says so of what is lent, and a proof is told it here.
+fn count_run(words: [u32; Store::CAPACITY]) -> usize
+    ensures { λ r. ⌜ (r ≡ 16) × (length words ≡ 16) ⌝ }
+{
+    Store::CAPACITY
+}
+
+// Step 5 of a begin that nothing refuses, and its reply.
+fn tell_begun(
+    head: &[u32; HEAD],
+    us: &[u32; Store::CAPACITY],
+    vs: &[u32; Store::CAPACITY],
+    places: &mut [u32; Store::WORDS],
+    t: Start,
+    x: Sizes,
+    reply: &mut [u8],
+) -> Answer
+    requires { ⌜ FewMembers x × Roomy (now reply) ⌝ }
+    ensures { λ r. ⌜ Tells (now (head .entry)) (now (us .entry)) (now (vs .entry)) (now (places .entry)) t x (now (reply .entry)) r (now (places .exit)) (now (reply .exit)) ⌝ }
+{
+    let mut handed = [0u32; Store::HANDED];
+    let mut thrown = [0u32; Store::THROWN];
+    let mut released = [0u32; Store::RELEASED];
+    let l = heads::limits_in(head);
+    let f = t.flags;
+    let starts = f.over & !heads::flag_of(head[2]);
+    let c = store::update_dpb_before_decoding(
+        places,
+        starts,
+        f.prior,
+        l,
+        &mut handed,
+        &mut thrown,
+        &mut released,
+    );
+    let told = told_of(head[3], t);
+    writing::put_begun(reply, told, x, us, vs, c, &handed, &thrown, &released)
 }
 
 // Steps 4 and 5 of a begin that nothing refuses, its reply and the session after it.
-fn begun(s: Session, msg: &[u8], h: Head, t: Start, w: Wanted16, reply: &mut [u8]) -> Answer
-    requires { ⌜ Wished s (now msg) h t w × Roomy (now reply) ⌝ }
-    ensures { λ r. ⌜ Says s 2 (beginOf (view s) (fieldsOf (now (msg .entry)))) (now (reply .entry)) r (now (reply .exit)) ⌝ }
+fn begun(
+    head: &mut [u32; HEAD],
+    run: &mut [u32; Store::CAPACITY],
+    places: &mut [u32; Store::WORDS],
+    msg: &[u8],
+    h: Head,
+    t: Start,
+    pocs: &[i32; Store::CAPACITY],
+    hows: &[u8; Store::CAPACITY],
+    reply: &mut [u8],
+) -> Answer
+    requires { ⌜ Wished (sessionIn (memory (now head) (now run) (now places))) (now msg) h t (now pocs) (now hows) × Roomy (now reply) ⌝ }
+    ensures { λ r. ⌜ Does (memory (now (head .entry)) (now (run .entry)) (now (places .entry))) (beginOf (sessionIn (memory (now (head .entry)) (now (run .entry)) (now (places .entry)))) (fieldsOf (now (msg .entry)))) (now (reply .entry)) r (memory (now (head .exit)) (now (run .exit)) (now (places .exit))) (now (reply .exit)) ⌝ }
 {
-    let limits = s.limits;
-    let store = s.store;
-    let prev = s.prev;
+    let l = heads::limits_in(head);
     let f = t.flags;
-    let d = store::derive_and_mark_rps(store, w, limits.k, f.over);
-    let marked = d.store;
-    let sets = d.sets;
-    let o = store::update_dpb_before_decoding(marked, f.over & !s.ended, f.prior, limits);
-    let told = Told {
-        poc: t.poc,
-        flags: flags_byte(f),
-        serial: Serial(s.next),
-    };
-    let len = writing::put_begun(reply, told, sets, o);
-    let left = o.store;
-    let refs = sets.refs;
-    let serial = next_after(s.next);
-    let next = Session {
-        configured: s.configured,
-        limits,
-        store: left,
-        current: Now::Is(current_of(s.next, h, t)),
-        refs,
-        prev,
-        start: false,
-        ended: false,
-        next: serial,
-    };
-    Answer {
-        number: 0,
-        len,
-        next,
-    }
+    let over = f.over;
+    let neg = h.neg as usize;
+    let pos = h.pos as usize;
+    let lt = h.lt as usize;
+    let mut vs = [0u32; Store::CAPACITY];
+    let x = store::derive_and_mark_rps(places, l.k, over, pocs, hows, neg, pos, lt, run, &mut vs);
+    count_run(*run);
+    let a = tell_begun(head, run, &vs, places, t, x, reply);
+    let next = head[3];
+    heads::put_begun(head, current_of(next, h, t), refs_of(x), next_after(next));
+    a
 }
 
 // Step 3 of a begin whose POC lies in i32: number 6, or the steps behind it.
-fn begin_at(s: Session, msg: &[u8], h: Head, t: Start, reply: &mut [u8]) -> Answer
-    requires { ⌜ Placed s (now msg) h t × Roomy (now reply) ⌝ }
-    ensures { λ r. ⌜ Says s 2 (beginOf (view s) (fieldsOf (now (msg .entry)))) (now (reply .entry)) r (now (reply .exit)) ⌝ }
+fn begin_at(
+    head: &mut [u32; HEAD],
+    run: &mut [u32; Store::CAPACITY],
+    places: &mut [u32; Store::WORDS],
+    msg: &[u8],
+    h: Head,
+    t: Start,
+    reply: &mut [u8],
+) -> Answer
+    requires { ⌜ Placed (sessionIn (memory (now head) (now run) (now places))) (now msg) h t × Roomy (now reply) ⌝ }
+    ensures { λ r. ⌜ Does (memory (now (head .entry)) (now (run .entry)) (now (places .entry))) (beginOf (sessionIn (memory (now (head .entry)) (now (run .entry)) (now (places .entry)))) (fieldsOf (now (msg .entry)))) (now (reply .entry)) r (memory (now (head .exit)) (now (run .exit)) (now (places .exit))) (now (reply .exit)) ⌝ }
 {
-    let limits = s.limits;
-    let w = reading::wishes(msg, h, limits.k, t.poc);
-    if !w.inside {
-        return writing::refuse(s, reply, 258, Refusal::Outside);
+    let l = heads::limits_in(head);
+    let mut pocs = [0i32; Store::CAPACITY];
+    let mut hows = [0u8; Store::CAPACITY];
+    if !reading::wishes(msg, h, l.k, t.poc, &mut pocs, &mut hows) {
+        return writing::refuse(reply, 258, Refusal::Outside);
     }
-    begun(s, msg, h, t, wanted_of(h, w), reply)
+    begun(head, run, places, msg, h, t, &pocs, &hows, reply)
 }
 
 // Steps 1 and 2 of a begin that none of 1, 3, 5, 8 and 7 refuses.
-fn begin_inside(s: Session, msg: &[u8], reply: &mut [u8]) -> Answer
-    requires { ⌜ Passed s (now msg) × Roomy (now reply) ⌝ }
-    ensures { λ r. ⌜ Says s 2 (beginOf (view s) (fieldsOf (now (msg .entry)))) (now (reply .entry)) r (now (reply .exit)) ⌝ }
+fn begin_inside(
+    head: &mut [u32; HEAD],
+    run: &mut [u32; Store::CAPACITY],
+    places: &mut [u32; Store::WORDS],
+    msg: &[u8],
+    reply: &mut [u8],
+) -> Answer
+    requires { ⌜ Passed (sessionIn (memory (now head) (now run) (now places))) (now msg) × Roomy (now reply) ⌝ }
+    ensures { λ r. ⌜ Does (memory (now (head .entry)) (now (run .entry)) (now (places .entry))) (beginOf (sessionIn (memory (now (head .entry)) (now (run .entry)) (now (places .entry)))) (fieldsOf (now (msg .entry)))) (now (reply .entry)) r (memory (now (head .exit)) (now (run .exit)) (now (places .exit))) (now (reply .exit)) ⌝ }
 {
     let h = reading::head_of(msg);
-    let limits = s.limits;
-    let q = s.prev;
-    let flags = flags_of(s.start, s.ended, h);
-    match order::derive_poc(limits.k, prev_for(flags.over, q), h.lsb) {
-        Poc::Outside => writing::refuse(s, reply, 258, Refusal::Outside),
-        Poc::Val { msb, poc } => begin_at(s, msg, h, Start { flags, msb, poc }, reply),
+    let l = heads::limits_in(head);
+    let q = heads::prev_in(head);
+    let flags = flags_of(heads::flag_of(head[1]), heads::flag_of(head[2]), h);
+    match order::derive_poc(l.k, prev_for(flags.over, q), h.lsb) {
+        Poc::Outside => writing::refuse(reply, 258, Refusal::Outside),
+        Poc::Val { msb, poc } => {
+            let t = Start { flags, msb, poc };
+            begin_at(head, run, places, msg, h, t, reply)
+        }
     }
 }
 
 // Begin: "1, 3, 5, 8, 7, 6".
-pub(crate) fn begin(s: Session, msg: &[u8], reply: &mut [u8]) -> Answer
+pub(crate) fn begin(
+    head: &mut [u32; HEAD],
+    run: &mut [u32; Store::CAPACITY],
+    places: &mut [u32; Store::WORDS],
+    msg: &[u8],
+    reply: &mut [u8],
+) -> Answer
     requires { ⌜ Roomy (now reply) ⌝ }
-    ensures { λ r. ⌜ Says s 2 (beginOf (view s) (fieldsOf (now (msg .entry)))) (now (reply .entry)) r (now (reply .exit)) ⌝ }
+    ensures { λ r. ⌜ Does (memory (now (head .entry)) (now (run .entry)) (now (places .entry))) (beginOf (sessionIn (memory (now (head .entry)) (now (run .entry)) (now (places .entry)))) (fieldsOf (now (msg .entry)))) (now (reply .entry)) r (memory (now (head .exit)) (now (run .exit)) (now (places .exit))) (now (reply .exit)) ⌝ }
 {
-    let limits = s.limits;
-    let current = s.current;
-    let store = s.store;
-    if !s.configured {
-        return writing::refuse(s, reply, 258, Refusal::Unconfigured);
+    let l = heads::limits_in(head);
+    if !heads::flag_of(head[0]) {
+        return writing::refuse(reply, 258, Refusal::Unconfigured);
     }
-    if ending::is_current(current) {
-        return writing::refuse(s, reply, 258, Refusal::Busy);
+    if heads::flag_of(head[12]) {
+        return writing::refuse(reply, 258, Refusal::Busy);
     }
-    if !reading::begin_ranges(msg, limits.k) {
-        return writing::refuse(s, reply, 258, Refusal::OutOfRange);
+    if !reading::begin_ranges(msg, l.k) {
+        return writing::refuse(reply, 258, Refusal::OutOfRange);
     }
-    if s.next == Store::MISSING {
-        return writing::refuse(s, reply, 258, Refusal::SerialsSpent);
+    if head[3] == Store::MISSING {
+        return writing::refuse(reply, 258, Refusal::SerialsSpent);
     }
-    if store::holds_surface(store, reading::surface_of(msg)) {
-        return writing::refuse(s, reply, 258, Refusal::SurfaceHeld);
+    if store::holds_surface(places, reading::surface_of(msg)) {
+        return writing::refuse(reply, 258, Refusal::SurfaceHeld);
     }
-    begin_inside(s, msg, reply)
+    begin_inside(head, run, places, msg, reply)
 }

@@ -1,32 +1,27 @@
 // Replies, written into the lent buffer.
 use crate::Answer;
 use crate::Refusal;
-use crate::Session;
 use crate::number;
-use derivation::rows::RefList;
 use paper::Serial;
 use paper::Shown;
 use paper::Surface;
-use store::Outcome;
-use store::Sets;
+use store::Sizes;
 use store::Store;
+use store::Tally;
 ghost use mathlib.Core.Path.{_≡_};
-ghost use mathlib.Core.List.{[], _∷_, _++_};
-ghost use Prim.Native.Nat.{ℕ, _+_, _*_, _≤_, _<_};
-ghost use lib.ListN.{length, take, drop};
+ghost use mathlib.Core.List.{_++_};
+ghost use Prim.Native.Nat.{_+_, _*_, _≤_, _<_};
+ghost use lib.ListN.{length};
 ghost use lib.Seq.{sets};
-ghost use Rattle.wire.specs.Bytes.{over};
 ghost use Rattle.paper.specs.Words.{flat};
 ghost use Rattle.paper.specs.Numbers.{bytes16, serialNos, surfaceNos};
-ghost use Rattle.paper.specs.Replies.{shownBytes, words, tailBytes, begunBytes, framed, bytesOf};
-ghost use Rattle.paper.specs.Step.{refused};
-ghost use Rattle.paper.specs.Output.{quiet};
+ghost use Rattle.paper.specs.Replies.{shownBytes, words, tailBytes, framed, bytesOf};
 ghost use Rattle.paper.specs.Replies.Reply.{Listed};
-ghost use Rattle.store.specs.Store.{GoodOutcome, movedIn};
-ghost use Rattle.session.specs.Written.{Listable, listIn, toldBytes, FewMembers, memberBytes, begunPart};
+ghost use Rattle.paper.specs.Output.{quiet};
+ghost use Rattle.store.specs.Tails.{shownAt, shownIn, serialsIn, surfacesIn, tailIn};
+ghost use Rattle.session.specs.Written.{numbersFrom, toldBytes, sizesBytes, memberBytes, begunPart, FewMembers, FewTail};
 ghost use Rattle.session.specs.Numbered.{numberOf};
-ghost use Rattle.session.specs.View.{view};
-ghost use Rattle.session.specs.Said.{Says, Roomy};
+ghost use Rattle.session.specs.Said.{Roomy, Says, Refuses};
 
 // The head and the refusal number: "u16 body length, u16 kind", "its body starts with a u16 refusal number".
 pub(crate) fn put_head(d: &mut [u8], body: u16, kind: u16, number: u16) -> usize
@@ -38,17 +33,26 @@ pub(crate) fn put_head(d: &mut [u8], body: u16, kind: u16, number: u16) -> usize
     wire::put_u16(d, b, number)
 }
 
-// A refused record: "leaves the session as before and writes six bytes".
-pub(crate) fn refuse(s: Session, reply: &mut [u8], kind: u16, why: Refusal) -> Answer
+// A refused record: "writes six bytes".
+pub(crate) fn refuse(reply: &mut [u8], kind: u16, why: Refusal) -> Answer
     requires { ⌜ Roomy (now reply) ⌝ }
-    ensures { λ r. ⌜ ((k : ℕ) → Says s k (refused (view s) kind (numberOf why)) (now (reply .entry)) r (now (reply .exit))) ⌝ }
+    ensures { λ r. ⌜ Refuses kind (numberOf why) (now (reply .entry)) r (now (reply .exit)) ⌝ }
 {
     let n = number(why);
     let len = put_head(reply, 2, kind, n);
-    Answer {
-        number: n,
-        len,
-        next: s,
+    Answer { number: n, len }
+}
+
+// A picture handed out, from its three words.
+fn shown_at(handed: &[u32; Store::HANDED], i: usize) -> Shown
+    requires { ⌜ i < 32 ⌝ }
+    ensures { λ r. ⌜ r ≡ shownAt (now (handed .entry)) i ⌝ }
+{
+    let poc = wire::signed(handed[3 * i + 2]);
+    Shown {
+        serial: Serial(handed[3 * i]),
+        surface: Surface(handed[3 * i + 1]),
+        poc,
     }
 }
 
@@ -65,13 +69,13 @@ fn put_shown(d: &mut [u8], at: usize, p: Shown) -> usize
 }
 
 // The first n pictures handed out, one after the other.
-fn put_handed(d: &mut [u8], at: usize, xs: [Shown; Store::CAPACITY], n: usize) -> usize
+fn put_handed(d: &mut [u8], at: usize, handed: &[u32; Store::HANDED], n: usize) -> usize
     requires { ⌜ (n ≤ 16) × (at + 12 * n ≤ length (now d)) ⌝ }
-    ensures { λ r. ⌜ (r ≡ at + 12 * n) × (now (d .exit) ≡ sets (now (d .entry)) at (flat shownBytes (take n xs))) ⌝ }
+    ensures { λ r. ⌜ (r ≡ at + 12 * n) × (now (d .exit) ≡ sets (now (d .entry)) at (flat shownBytes (shownIn (now (handed .entry)) n))) ⌝ }
 {
     let mut i = 0;
     while i < n {
-        let p = xs[i];
+        let p = shown_at(handed, i);
         put_shown(d, at + 12 * i, p);
         i += 1;
     }
@@ -79,108 +83,112 @@ fn put_handed(d: &mut [u8], at: usize, xs: [Shown; Store::CAPACITY], n: usize) -
 }
 
 // The first n serials thrown away, one after the other.
-fn put_thrown(d: &mut [u8], at: usize, xs: [Serial; Store::TAIL], n: usize) -> usize
+fn put_thrown(d: &mut [u8], at: usize, xs: &[u32; Store::THROWN], n: usize) -> usize
     requires { ⌜ (n ≤ 17) × (at + 4 * n ≤ length (now d)) ⌝ }
-    ensures { λ r. ⌜ (r ≡ at + 4 * n) × (now (d .exit) ≡ sets (now (d .entry)) at (words (serialNos (take n xs)))) ⌝ }
+    ensures { λ r. ⌜ (r ≡ at + 4 * n) × (now (d .exit) ≡ sets (now (d .entry)) at (words (serialNos (serialsIn (now (xs .entry)) n)))) ⌝ }
 {
     let mut i = 0;
     while i < n {
-        let x = xs[i];
-        wire::put_u32(d, at + 4 * i, x.0);
+        wire::put_u32(d, at + 4 * i, xs[i]);
         i += 1;
     }
     at + 4 * n
 }
 
 // The first n surfaces released, one after the other.
-fn put_released(d: &mut [u8], at: usize, xs: [Surface; Store::TAIL], n: usize) -> usize
+fn put_released(d: &mut [u8], at: usize, xs: &[u32; Store::RELEASED], n: usize) -> usize
     requires { ⌜ (n ≤ 17) × (at + 4 * n ≤ length (now d)) ⌝ }
-    ensures { λ r. ⌜ (r ≡ at + 4 * n) × (now (d .exit) ≡ sets (now (d .entry)) at (words (surfaceNos (take n xs)))) ⌝ }
+    ensures { λ r. ⌜ (r ≡ at + 4 * n) × (now (d .exit) ≡ sets (now (d .entry)) at (words (surfaceNos (surfacesIn (now (xs .entry)) n)))) ⌝ }
 {
     let mut i = 0;
     while i < n {
-        let x = xs[i];
-        wire::put_u32(d, at + 4 * i, x.0);
+        wire::put_u32(d, at + 4 * i, xs[i]);
         i += 1;
     }
     at + 4 * n
 }
 
-// n serials from a place on, one after the other.
-fn put_serials(
-    d: &mut [u8],
-    at: usize,
-    xs: [Serial; Store::CAPACITY],
-    from: usize,
-    n: usize,
-) -> usize
+// n serials of a run, from a place on, one after the other.
+fn put_run(d: &mut [u8], at: usize, xs: &[u32; Store::CAPACITY], from: usize, n: usize) -> usize
     requires { ⌜ (from + n ≤ 16) × (at + 4 * n ≤ length (now d)) ⌝ }
-    ensures { λ r. ⌜ (r ≡ at + 4 * n) × (now (d .exit) ≡ sets (now (d .entry)) at (words (serialNos (take n (drop from xs))))) ⌝ }
+    ensures { λ r. ⌜ (r ≡ at + 4 * n) × (now (d .exit) ≡ sets (now (d .entry)) at (words (numbersFrom (now (xs .entry)) from n))) ⌝ }
 {
     let mut i = 0;
     while i < n {
-        let x = xs[from + i];
-        wire::put_u32(d, at + 4 * i, x.0);
+        wire::put_u32(d, at + 4 * i, xs[from + i]);
         i += 1;
     }
     at + 4 * n
 }
 
 // A tail: "u8 count and .. each picture handed out; u8 count and serials thrown away; u8 count and surfaces released".
-fn put_tail(d: &mut [u8], at: usize, o: Outcome) -> usize
-    requires { ⌜ GoodOutcome o × (at + 350 ≤ length (now d)) ⌝ }
-    ensures { λ r. ⌜ (r ≡ at + length (tailBytes (movedIn o .tail))) × (now (d .exit) ≡ sets (now (d .entry)) at (tailBytes (movedIn o .tail))) ⌝ }
+fn put_tail(
+    d: &mut [u8],
+    at: usize,
+    c: Tally,
+    handed: &[u32; Store::HANDED],
+    thrown: &[u32; Store::THROWN],
+    released: &[u32; Store::RELEASED],
+) -> usize
+    requires { ⌜ FewTail c × (at + 350 ≤ length (now d)) ⌝ }
+    ensures { λ r. ⌜ (r ≡ at + length (tailBytes (tailIn (now (handed .entry)) (now (thrown .entry)) (now (released .entry)) c))) × (now (d .exit) ≡ sets (now (d .entry)) at (tailBytes (tailIn (now (handed .entry)) (now (thrown .entry)) (now (released .entry)) c))) ⌝ }
 {
-    let handed = o.handed;
-    let thrown = o.thrown;
-    let released = o.released;
-    let xs = handed.items;
-    let ys = thrown.items;
-    let zs = released.items;
-    let a = wire::put_u8(d, at, handed.len as u8);
-    let b = put_handed(d, a, xs, handed.len);
-    let c = wire::put_u8(d, b, thrown.len as u8);
-    let e = put_thrown(d, c, ys, thrown.len);
-    let f = wire::put_u8(d, e, released.len as u8);
-    put_released(d, f, zs, released.len)
+    let n = c.thrown;
+    let m = c.released;
+    let a = wire::put_u8(d, at, c.handed as u8);
+    let b = put_handed(d, a, handed, c.handed);
+    let e = wire::put_u8(d, b, n as u8);
+    let f = put_thrown(d, e, thrown, n);
+    let g = wire::put_u8(d, f, m as u8);
+    put_released(d, g, released, m)
 }
 
 // An accepted reply that holds the refusal number 0 and a tail, of reply kind `kind`.
-pub(crate) fn put_done(d: &mut [u8], kind: u16, o: Outcome) -> usize
-    requires { ⌜ GoodOutcome o × Roomy (now d) ⌝ }
-    ensures { λ r. ⌜ (r ≡ length (framed kind 0 (tailBytes (movedIn o .tail)))) × (now (d .exit) ≡ over (framed kind 0 (tailBytes (movedIn o .tail))) (now (d .entry))) ⌝ }
+pub(crate) fn put_done(
+    d: &mut [u8],
+    kind: u16,
+    c: Tally,
+    handed: &[u32; Store::HANDED],
+    thrown: &[u32; Store::THROWN],
+    released: &[u32; Store::RELEASED],
+) -> Answer
+    requires { ⌜ FewTail c × Roomy (now d) ⌝ }
+    ensures { λ r. ⌜ Says (framed kind 0 (tailBytes (tailIn (now (handed .entry)) (now (thrown .entry)) (now (released .entry)) c))) (now (d .entry)) r (now (d .exit)) ⌝ }
 {
-    let n = put_tail(d, 6, o);
-    put_head(d, (n - 4) as u16, kind, 0);
-    n
+    let len = put_tail(d, 6, c, handed, thrown, released);
+    put_head(d, (len - 4) as u16, kind, 0);
+    Answer { number: 0, len }
 }
 
 // An accepted reply with the refusal number 0 and an empty tail.
-pub(crate) fn put_quiet(d: &mut [u8], kind: u16) -> usize
+pub(crate) fn put_quiet(d: &mut [u8], kind: u16) -> Answer
     requires { ⌜ Roomy (now d) ⌝ }
-    ensures { λ r. ⌜ (r ≡ 9) × (now (d .exit) ≡ over (framed kind 0 (tailBytes quiet)) (now (d .entry))) ⌝ }
+    ensures { λ r. ⌜ Says (framed kind 0 (tailBytes quiet)) (now (d .entry)) r (now (d .exit)) ⌝ }
 {
     let n = put_head(d, 5, kind, 0);
     let a = wire::put_u8(d, n, 0);
     let b = wire::put_u8(d, a, 0);
-    wire::put_u8(d, b, 0)
+    let len = wire::put_u8(d, b, 0);
+    Answer { number: 0, len }
 }
 
 // The reply to accepted lists: "0, two u8 lengths, the u32 serials".
-pub(crate) fn put_lists(d: &mut [u8], x: RefList, y: RefList) -> usize
-    requires { ⌜ Listable x × Listable y × Roomy (now d) ⌝ }
-    ensures { λ r. ⌜ (r ≡ length (bytesOf (Listed (listIn x) (listIn y)))) × (now (d .exit) ≡ over (bytesOf (Listed (listIn x) (listIn y))) (now (d .entry))) ⌝ }
+pub(crate) fn put_lists(
+    d: &mut [u8],
+    x: &[u32; Store::CAPACITY],
+    n: usize,
+    y: &[u32; Store::CAPACITY],
+    m: usize,
+) -> Answer
+    requires { ⌜ (n ≤ 16) × (m ≤ 16) × Roomy (now d) ⌝ }
+    ensures { λ r. ⌜ Says (bytesOf (Listed (serialsIn (now (x .entry)) n) (serialsIn (now (y .entry)) m))) (now (d .entry)) r (now (d .exit)) ⌝ }
 {
-    let n = x.len;
-    let m = y.len;
-    let xs = x.items;
-    let ys = y.items;
     let a = wire::put_u8(d, 6, n as u8);
     let b = wire::put_u8(d, a, m as u8);
-    let c = put_serials(d, b, xs, 0, n);
-    let e = put_serials(d, c, ys, 0, m);
-    put_head(d, (e - 4) as u16, 259, 0);
-    e
+    let c = put_run(d, b, x, 0, n);
+    let len = put_run(d, c, y, 0, m);
+    put_head(d, (len - 4) as u16, 259, 0);
+    Answer { number: 0, len }
 }
 
 // What begin says of its picture, but for its sets.
@@ -202,44 +210,55 @@ fn put_told(d: &mut [u8], at: usize, t: Told) -> usize
 }
 
 // "five u8 counts (StCurrBefore, StCurrAfter, StFoll, LtCurr, LtFoll)".
-fn put_counts(d: &mut [u8], at: usize, x: Sets) -> usize
-    requires { ⌜ at + 5 ≤ length (now d) ⌝ }
-    ensures { λ r. ⌜ (r ≡ at + 5) × (now (d .exit) ≡ sets (now (d .entry)) at (x .refs .before ∷ x .refs .after ∷ x .rest .foll ∷ x .refs .long ∷ x .rest .«lt_foll» ∷ [])) ⌝ }
+fn put_sizes(d: &mut [u8], at: usize, x: Sizes) -> usize
+    requires { ⌜ FewMembers x × (at + 5 ≤ length (now d)) ⌝ }
+    ensures { λ r. ⌜ (r ≡ at + 5) × (now (d .exit) ≡ sets (now (d .entry)) at (sizesBytes x)) ⌝ }
 {
-    let refs = x.refs;
-    let rest = x.rest;
-    let a = wire::put_u8(d, at, refs.before);
-    let b = wire::put_u8(d, a, refs.after);
-    let c = wire::put_u8(d, b, rest.foll);
-    let e = wire::put_u8(d, c, refs.long);
-    wire::put_u8(d, e, rest.lt_foll)
+    let a = wire::put_u8(d, at, x.before as u8);
+    let b = wire::put_u8(d, a, x.after as u8);
+    let c = wire::put_u8(d, b, x.foll as u8);
+    let e = wire::put_u8(d, c, x.long as u8);
+    wire::put_u8(d, e, x.lt_foll as u8)
 }
 
-// "their members in that order as u32 serials".
-fn put_members(d: &mut [u8], at: usize, x: Sets) -> usize
-    requires { ⌜ FewMembers x × (at + 128 ≤ length (now d)) ⌝ }
-    ensures { λ r. ⌜ (r ≡ at + length (memberBytes x)) × (now (d .exit) ≡ sets (now (d .entry)) at (memberBytes x)) ⌝ }
+// "their members in that order as u32 serials": of two runs, StCurrBefore, StCurrAfter, LtCurr and StFoll, LtFoll.
+fn put_members(
+    d: &mut [u8],
+    at: usize,
+    x: Sizes,
+    us: &[u32; Store::CAPACITY],
+    vs: &[u32; Store::CAPACITY],
+) -> usize
+    requires { ⌜ FewMembers x × (at + 64 ≤ length (now d)) ⌝ }
+    ensures { λ r. ⌜ (r ≡ at + length (memberBytes x (now (us .entry)) (now (vs .entry)))) × (now (d .exit) ≡ sets (now (d .entry)) at (memberBytes x (now (us .entry)) (now (vs .entry)))) ⌝ }
 {
-    let refs = x.refs;
-    let rest = x.rest;
-    let curr = refs.items;
-    let foll = rest.items;
-    let n = refs.before as usize + refs.after as usize;
-    let a = put_serials(d, at, curr, 0, n);
-    let b = put_serials(d, a, foll, 0, rest.foll as usize);
-    let c = put_serials(d, b, curr, n, refs.long as usize);
-    put_serials(d, c, foll, rest.foll as usize, rest.lt_foll as usize)
+    let n = x.before + x.after;
+    let k = x.foll;
+    let a = put_run(d, at, us, 0, n);
+    let b = put_run(d, a, vs, 0, k);
+    let c = put_run(d, b, us, n, x.long);
+    put_run(d, c, vs, k, x.lt_foll)
 }
 
 // The reply to an accepted begin.
-pub(crate) fn put_begun(d: &mut [u8], t: Told, x: Sets, o: Outcome) -> usize
-    requires { ⌜ FewMembers x × (GoodOutcome o × (Roomy (now d))) ⌝ }
-    ensures { λ r. ⌜ (r ≡ length (framed 258 0 (begunPart t x ++ tailBytes (movedIn o .tail)))) × (now (d .exit) ≡ over (framed 258 0 (begunPart t x ++ tailBytes (movedIn o .tail))) (now (d .entry))) ⌝ }
+pub(crate) fn put_begun(
+    d: &mut [u8],
+    t: Told,
+    x: Sizes,
+    us: &[u32; Store::CAPACITY],
+    vs: &[u32; Store::CAPACITY],
+    c: Tally,
+    handed: &[u32; Store::HANDED],
+    thrown: &[u32; Store::THROWN],
+    released: &[u32; Store::RELEASED],
+) -> Answer
+    requires { ⌜ FewMembers x × (FewTail c × Roomy (now d)) ⌝ }
+    ensures { λ r. ⌜ Says (framed 258 0 (begunPart t x (now (us .entry)) (now (vs .entry)) ++ tailBytes (tailIn (now (handed .entry)) (now (thrown .entry)) (now (released .entry)) c))) (now (d .entry)) r (now (d .exit)) ⌝ }
 {
     let a = put_told(d, 6, t);
-    let b = put_counts(d, a, x);
-    let c = put_members(d, b, x);
-    let n = put_tail(d, c, o);
-    put_head(d, (n - 4) as u16, 258, 0);
-    n
+    let b = put_sizes(d, a, x);
+    let e = put_members(d, b, x, us, vs);
+    let len = put_tail(d, e, c, handed, thrown, released);
+    put_head(d, (len - 4) as u16, 258, 0);
+    Answer { number: 0, len }
 }

@@ -1,4 +1,5 @@
--- The forms by reference and the covered forms by value answer alike: their contracts say one definition, here of a lent run that is the pictures of a store.
+-- The searches over a lent run of picture records and those over a store's words answer alike: their contracts say one definition, here of a lent run that is the
+-- pictures of the store.
 use mathlib.Core.Path.{_≡_, sym, ap, _∙_}
 use mathlib.Core.Bool.{Bool}
 use mathlib.Core.List.{List}
@@ -8,24 +9,23 @@ use Rattle.paper.specs.Sets.{firstOf, marked}
 use Rattle.paper.specs.declared.Serial.{Serial}
 use Rattle.paper.specs.declared.Mark.{Mark}
 use Rattle.paper.specs.declared.Picture.{Picture}
-use Rattle.store.specs.Store.{view}
+use Rattle.store.specs.Shelf.{stored}
 use Rattle.store.specs.Walks.{anyAt, lowAt, shortAt}
-use Rattle.store.specs.declared.Store.{Store}
 
-module _ (s : Store) (ps : List Picture) (lent : ps ≡ view s) (a b : Serial) where
-  alike : (f : Picture → Bool) → a ≡ firstOf f (view s) → b ≡ firstOf f ps → a ≡ b
+module _ (t : List ℕ) (ps : List Picture) (lent : ps ≡ stored t) (a b : Serial) where
+  alike : (f : Picture → Bool) → a ≡ firstOf f (stored t) → b ≡ firstOf f ps → a ≡ b
   alike f x y = x ∙ sym (y ∙ ap (firstOf f) lent)
 
   -- `find_ref_by_poc` and `find_ref_by_poc_in`
-  pub ref-by-poc-alike : (poc : ℤ) → a ≡ firstOf (anyAt poc) (view s) → b ≡ firstOf (anyAt poc) ps → a ≡ b
+  pub ref-by-poc-alike : (poc : ℤ) → a ≡ firstOf (anyAt poc) (stored t) → b ≡ firstOf (anyAt poc) ps → a ≡ b
   ref-by-poc-alike poc = alike (anyAt poc)
 
   -- `find_ref_by_poc_masked` and `find_ref_by_poc_masked_in`
-  pub ref-by-poc-masked-alike : (k : ℕ) (low : ℤ) → a ≡ firstOf (lowAt (2 ^ (min k 16)) low) (view s) → b ≡ firstOf (lowAt (2 ^ (min k 16)) low) ps → a ≡ b
+  pub ref-by-poc-masked-alike : (k : ℕ) (low : ℤ) → a ≡ firstOf (lowAt (2 ^ (min k 16)) low) (stored t) → b ≡ firstOf (lowAt (2 ^ (min k 16)) low) ps → a ≡ b
   ref-by-poc-masked-alike k low = alike (lowAt (2 ^ (min k 16)) low)
 
   -- `find_short_term_ref_by_poc` and `find_short_term_ref_by_poc_in`
-  pub short-term-ref-by-poc-alike : (poc : ℤ) → a ≡ firstOf (shortAt poc) (view s) → b ≡ firstOf (shortAt poc) ps → a ≡ b
+  pub short-term-ref-by-poc-alike : (poc : ℤ) → a ≡ firstOf (shortAt poc) (stored t) → b ≡ firstOf (shortAt poc) ps → a ≡ b
   short-term-ref-by-poc-alike poc = alike (shortAt poc)
 
 -- `with_mark` and `set_mark`

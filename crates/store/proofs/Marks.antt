@@ -1,30 +1,24 @@
--- Membership and marks. Assumes nothing.
-use mathlib.Core.Path.{_≡_, refl, sym, ap, _∙_}
+-- The marks of step 4: to be in one of two lists is to be in either, so the two runs have the members of the five sets, whatever their order. Assumes nothing.
+use Prim.Native.Nat.{ℕ, _+_, _-_, _≤_}
+use mathlib.Core.Path.{_≡_, refl, sym, ap, ap₂, _∙_}
 use mathlib.Core.Bool.{Bool, true, false, cond, _||_}
-use mathlib.Core.List.{List, [], _∷_, _++_, append-assoc, map, map-append}
-use Prim.Native.Nat.{ℕ}
-use Rattle.arrays.specs.Pad.{Padded}
-use Rattle.paper.specs.Words.{anyB, keep}
+use mathlib.Core.List.{List, _++_, append-assoc, map, map-append}
+use native.Mathlib.Omega.{arith}
+use lib.ListN.{length, length-append}
+use Rattle.paper.specs.Words.{table, anyB, keep}
 use Rattle.paper.specs.Numbers.{sameSerial}
 use Rattle.paper.specs.Sets.{Sets, Wishes, marksOf, setsOf, isIn, inOrder, markAll, markOnly, marked, longSet, shortSet, longMarked, usedBy, unusedBy, firstOf, shortMatch}
 use Rattle.paper.specs.declared.Serial.{Serial}
 use Rattle.paper.specs.declared.Picture.{Picture}
 use Rattle.paper.specs.declared.Wish.{Wish}
-use Rattle.paper.specs.declared.Mark.the-variants.{Unmarked, LongTerm}
-use Rattle.store.specs.Members.{marking}
-
--- an array that holds a list, with its length and its list said otherwise
-pub repad : {A : Type 0} {n : ℕ} {d : A} {a : List A} {m k : ℕ} {l r : List A} → Padded n d a m l → k ≡ m → r ≡ l → Padded n d a k r
-repad h e q = rw (e, q) h
-
-or-assoc : (a b c : Bool) → ((a || b) || c) ≡ (a || (b || c))
-or-assoc true b c = refl
-or-assoc false b c = refl
-
-pub any-append : {A : Type 0} (f : A → Bool) (a b : List A) → anyB f (a ++ b) ≡ (anyB f a || anyB f b)
-unfolding anyB
-any-append f [] b = refl
-any-append f (x ∷ a) b = rw (any-append f a b) (sym (or-assoc (f x) (anyB f a) (anyB f b)))
+use Rattle.paper.specs.declared.Mark.the-variants.{Unmarked}
+use Rattle.store.specs.Shelf.{stored}
+use Rattle.store.specs.Tails.{serialAt, serialsIn}
+use Rattle.store.specs.Runs.{answer, answers, marking, Joins, HoldsSets, MarksLong, KeepsMarks, Derives}
+use Rattle.store.specs.declared.Sizes.{Sizes}
+use Rattle.store.specs.declared.setting.Runs.{Runs}
+use Rattle.paper.proofs.Fits.{table-length}
+use Rattle.store.proofs.Walks.{any-append}
 
 -- the five sets in the reply's order and in the order of the two runs have the same members
 five : (a b c d e : Bool) → ((((a || b) || c) || d) || e) ≡ ((a || (b || d)) || (c || e))
@@ -35,37 +29,102 @@ five false false true false e = refl
 five false false false true e = refl
 five false false false false e = refl
 
-pub in-sets : (n : Serial) (x : Sets) → isIn n (inOrder x) ≡ isIn n ((x .before ++ (x .after ++ x .ltCurr)) ++ (x .foll ++ x .ltFoll))
+in-sets : (n : Serial) (x : Sets) → isIn n (inOrder x) ≡ isIn n ((x .before ++ (x .after ++ x .ltCurr)) ++ (x .foll ++ x .ltFoll))
 in-sets n x =
     let f = sameSerial n in
     simp any-append (five (anyB f (x .before)) (anyB f (x .after)) (anyB f (x .foll)) (anyB f (x .ltCurr)) (anyB f (x .ltFoll)))
 
-pub mark-only : (x : Sets) (ps : List Picture) → markOnly (inOrder x) ps ≡ map (marking false Unmarked ((x .before ++ (x .after ++ x .ltCurr)) ++ (x .foll ++ x .ltFoll))) ps
+mark-only : (x : Sets) (ps : List Picture) → map (marking false Unmarked ((x .before ++ (x .after ++ x .ltCurr)) ++ (x .foll ++ x .ltFoll))) ps ≡ markOnly (inOrder x) ps
 unfolding markOnly
-mark-only x ps = ap (λ (g : Picture → Picture). map g ps) (λ i p. cond (in-sets (p .serial) x i) p (marked Unmarked p))
+mark-only x ps = ap (λ (g : Picture → Picture). map g ps) (λ i p. cond (sym (in-sets (p .serial) x) i) p (marked Unmarked p))
 
-pub long-marked : (M : ℕ) (ps : List Picture) (w : Wishes) → longMarked M ps w ≡ map (marking true LongTerm (longSet M ps (keep usedBy (w .lt)) ++ longSet M ps (keep unusedBy (w .lt)))) ps
-unfolding markAll
-long-marked M ps w = refl
+-- ---- the sets
 
--- a set of two lists of wishes is two sets
-pub short-append : (ps : List Picture) (a b : List Wish) → shortSet ps (a ++ b) ≡ shortSet ps a ++ shortSet ps b
+-- the sizes of the sets: the first set ends at x, the second at y, and those of l stand behind
+abbrev sizesOf : Runs → Runs → Runs → Sizes
+sizesOf x y l = record { before = x .used; after = y .used - x .used; long = l .used; foll = y .rest; «lt_foll» = l .rest }
+
+-- the runs, behind one another, hold five sets, and what is in none of them loses its mark
+module _ (s : Sets) (t us vs t′ us′ vs′ ls ms : List ℕ) (x y l : Runs) (k : KeepsMarks t us vs y ls ms l t′ us′ vs′) (a : serialsIn us (y .used) ≡ s .before ++ s .after)
+    (f : serialsIn vs (y .rest) ≡ s .foll) (c : serialsIn ls (l .used) ≡ s .ltCurr) (d : serialsIn ms (l .rest) ≡ s .ltFoll) where
+  first-run : serialsIn us′ (y .used + l .used) ≡ s .before ++ (s .after ++ s .ltCurr)
+  first-run = k .used ∙ ap₂ (λ (p q : List Serial). p ++ q) a c ∙ append-assoc (s .before) (s .after) (s .ltCurr)
+
+  second-run : serialsIn vs′ (y .rest + l .rest) ≡ s .foll ++ s .ltFoll
+  second-run = k .rest ∙ ap₂ (λ (p q : List Serial). p ++ q) f d
+
+  kept-marks : stored t′ ≡ markOnly (inOrder s) (stored t)
+  kept-marks = k .pics ∙ ap₂ (λ (p q : List Serial). map (marking false Unmarked (p ++ q)) (stored t)) first-run second-run ∙ mark-only s (stored t)
+
+  long-of : (xs : List ℕ) (n : ℕ) (r : List Serial) → serialsIn xs n ≡ r → n ≡ length r
+  long-of xs n r e = sym (table-length (serialAt xs) n) ∙ ap length e
+
+  holds-sets : (us₁ : List ℕ) → serialsIn us₁ (x .used) ≡ s .before → y .used + y .rest + (l .used + l .rest) ≤ 16
+      → HoldsSets us′ vs′ (sizesOf x y l) s
+  holds-sets us₁ b few =
+      let n = long-of us₁ (x .used) (s .before) b in
+      let m = long-of us (y .used) (s .before ++ s .after) a in
+      let o = length-append (s .before) (s .after) in
+      let e : x .used + (y .used - x .used) + l .used ≡ y .used + l .used = omega arith in
+      record {
+        first = ap (serialsIn us′) e ∙ first-run;
+        second = second-run;
+        before = n;
+        after = omega arith;
+        long = long-of ls (l .used) (s .ltCurr) c;
+        foll = long-of vs (y .rest) (s .foll) f;
+        ltFoll = long-of ms (l .rest) (s .ltFoll) d;
+        few = omega arith;
+      }
+
+-- ---- step 4
+
+-- what is asked for, by the definition's searches
+long-is : (M : ℕ) (ps : List Picture) (ws : List Wish) → answers true M ps ws ≡ longSet M ps ws
+unfolding answer longSet
+long-is M ps ws = refl
+
+short-is : (M : ℕ) (ps : List Picture) (ws : List Wish) → answers false M ps ws ≡ shortSet ps ws
+unfolding answer shortSet
+short-is M ps ws = refl
+
+short-append : (ps : List Picture) (a b : List Wish) → shortSet ps (a ++ b) ≡ shortSet ps a ++ shortSet ps b
 unfolding shortSet
 short-append ps a b = map-append (λ (w : Wish). firstOf (shortMatch w) ps) a b
 
--- the pictures after step 4, by the two runs: Before, After and LtCurr, and the neg and the pos part of Foll and LtFoll
-pub marks-are : (M : ℕ) (ps : List Picture) (w : Wishes)
-    → marksOf M ps w
-    ≡ map (marking false Unmarked ((shortSet (longMarked M ps w) (keep usedBy (w .neg)) ++ (shortSet (longMarked M ps w) (keep usedBy (w .pos)) ++ longSet M ps (keep usedBy (w .lt))))
-    ++ (shortSet (longMarked M ps w) (keep unusedBy (w .neg)) ++ (shortSet (longMarked M ps w) (keep unusedBy (w .pos)) ++ longSet M ps (keep unusedBy (w .lt))))))
-    (longMarked M ps w)
-unfolding marksOf setsOf
-marks-are M ps w =
-    let qs = longMarked M ps w in
-    let lc = longSet M ps (keep usedBy (w .lt)) in
-    let lf = longSet M ps (keep unusedBy (w .lt)) in
-    let u = shortSet qs (keep usedBy (w .neg)) ++ (shortSet qs (keep usedBy (w .pos)) ++ lc) in
-    let f = keep unusedBy (w .neg) in
-    let g = keep unusedBy (w .pos) in
-    let e : shortSet qs (f ++ g) ++ lf ≡ shortSet qs f ++ (shortSet qs g ++ lf) = ap (λ (t : List Serial). t ++ lf) (short-append qs f g) ∙ append-assoc (shortSet qs f) (shortSet qs g) lf in
-    mark-only (setsOf M ps w) qs ∙ ap (λ (v : List Serial). map (marking false Unmarked (u ++ v)) qs) e
+module _ {n : ℕ} {t us vs us₁ vs₁ us₂ vs₂ t′ us′ vs′ ls ms : List ℕ} {x y l : Runs} (M : ℕ) (ps : List Picture) (w : Wishes) (m : MarksLong M ps (w .lt) n t ls ms l)
+    (g : Joins false M (stored t) (w .neg) us vs (record { used = 0; rest = 0 }) us₁ vs₁ x) (h : Joins false M (stored t) (w .pos) us₁ vs₁ x us₂ vs₂ y) (k : KeepsMarks t us₂ vs₂ y ls ms l t′ us′ vs′) where
+  abbrev qs : List Picture
+  qs = longMarked M ps w
+
+  long-marked : stored t ≡ qs
+  unfolding markAll answer longSet
+  long-marked = m .pics
+
+  found : (ws : List Wish) → answers false M (stored t) ws ≡ shortSet qs ws
+  found ws = short-is M (stored t) ws ∙ ap (λ (z : List Picture). shortSet z ws) long-marked
+
+  before-is : serialsIn us₁ (x .used) ≡ shortSet qs (keep usedBy (w .neg))
+  unfolding table
+  before-is = g .used ∙ found (keep usedBy (w .neg))
+
+  curr-is : serialsIn us₂ (y .used) ≡ shortSet qs (keep usedBy (w .neg)) ++ shortSet qs (keep usedBy (w .pos))
+  curr-is = h .used ∙ ap₂ (λ (p q : List Serial). p ++ q) before-is (found (keep usedBy (w .pos)))
+
+  foll-is : serialsIn vs₂ (y .rest) ≡ shortSet qs (keep unusedBy (w .neg) ++ keep unusedBy (w .pos))
+  unfolding table
+  foll-is =
+      h .rest ∙ ap₂ (λ (p q : List Serial). p ++ q) (g .rest ∙ found (keep unusedBy (w .neg))) (found (keep unusedBy (w .pos)))
+      ∙ sym (short-append qs (keep unusedBy (w .neg)) (keep unusedBy (w .pos)))
+
+  pub derives : y .used + y .rest + (l .used + l .rest) ≤ 16
+      → Derives M ps w t′ us′ vs′ (sizesOf x y l)
+  unfolding setsOf marksOf
+  derives few =
+      let s = setsOf M ps w in
+      let c = m .used ∙ long-is M ps (keep usedBy (w .lt)) in
+      let d = m .rest ∙ long-is M ps (keep unusedBy (w .lt)) in
+      record {
+        pics = kept-marks s t us₂ vs₂ t′ us′ vs′ ls ms x y l k curr-is foll-is c d ∙ ap (markOnly (inOrder s)) long-marked;
+        sets = holds-sets s t us₂ vs₂ t′ us′ vs′ ls ms x y l k curr-is foll-is c d us₁ before-is few;
+      }

@@ -1,119 +1,71 @@
--- A walk over the used places of an array, one element more at a time, for every element type. Reading loops speak of what is left from
--- a place on, building loops of what stands before it. Assumes nothing.
+-- A walk that looks for something: none of those passed is it, and the first that is ends the walk. Assumes nothing.
+use Prim.Native.Nat.{ℕ, zero, suc, _+_, _<_}
 use mathlib.Core.Path.{_≡_, refl, sym, ap, _∙_}
-use mathlib.Core.Bool.{Bool, true, false, cond, _&&_}
-use mathlib.Core.List.{List, [], _∷_, _++_, append-assoc, map, map-append}
-use Prim.Native.Nat.{ℕ, _+_, _≤_, _<_, min}
+use mathlib.Core.Bool.{Bool, true, false, _||_, or-assoc, or-false}
+use mathlib.Core.List.{List, [], _∷_, _++_, append-nil}
 use native.Mathlib.Omega.{arith}
-use lib.ListN.{length, take, drop, getD, length-append, length-take, length-map, take-append-drop}
-use lib.Seq.{getD-take}
-use Rattle.arrays.specs.Pad.{used}
-use Rattle.arrays.proofs.Pad.{take-more, at-cons, at-end, is-view}
-use Rattle.paper.specs.Words.{keep, anyB}
-use Rattle.paper.specs.Sets.{firstOf}
+use native.Mathlib.Numerals.{add-one}
+use lib.Dec.{eqb}
+use borrow.Author.Tests.{eqb-true, eqb-false}
+use Rattle.paper.proofs.Bools.{split, or-left, or-right}
+use Rattle.paper.specs.Words.{table, anyB}
 use Rattle.paper.specs.Numbers.{missing}
-use Rattle.paper.specs.Output.{lowest, below}
+use Rattle.paper.specs.Sets.{firstOf}
 use Rattle.paper.specs.declared.Picture.{Picture}
-use Rattle.paper.specs.declared.Found.{Found}
-use Rattle.paper.specs.declared.Found.the-variants.{The}
-use Rattle.store.specs.Store.{view, blank, Holds}
-use Rattle.store.specs.declared.Store.{Store}
+use Rattle.store.proofs.Shelf.{table-more}
 
--- ---- an array of any length: how many places are used, and what a place has
+pub any-append : {A : Type 0} (f : A → Bool) (a b : List A) → anyB f (a ++ b) ≡ (anyB f a || anyB f b)
+unfolding anyB
+any-append f [] b = refl
+any-append f (x ∷ a) b = rw (any-append f a b) (sym (or-assoc (f x) (anyB f a) (anyB f b)))
 
-pub used-length : {A : Type 0} (m : ℕ) (a : List A) → length (used m a) ≡ min m (length a)
-unfolding used
-used-length m a = length-take m a
+module _ {A : Type 0} (f : A → Bool) (g : ℕ → A) where
+  pub any-none : anyB f (table g 0) ≡ false
+  unfolding table anyB
+  any-none = refl
 
-pub used-get : {A : Type 0} (m : ℕ) (a : List A) (i : ℕ) (d : A) → i < length (used m a) → getD a i d ≡ getD (used m a) i d
-unfolding used
-used-get m a i d lt = let n : i < m = omega (arith, length-take m a) in sym (getD-take m a i d n)
-
-pub get : (s : Store) (i : ℕ) → i < length (view s) → getD (s .pics) i blank ≡ getD (view s) i blank
-get s i lt = used-get (s .len) (s .pics) i blank lt
-
--- ---- reading loops: one element more
-
-module _ {A : Type 0} (d : A) (m : ℕ) (a : List A) (i : ℕ) (f : A → Bool) where
-  pub any-hit : i < length (used m a) → f (getD a i d) ≡ true → anyB f (drop i (used m a)) ≡ true
+  last : (x : A) → anyB f (x ∷ []) ≡ f x
   unfolding anyB
-  any-hit lt w = rw (at-cons (used m a) i d lt, ← used-get m a i d lt, w)
+  last x = or-false (f x)
 
-  pub any-miss : i < length (used m a) → f (getD a i d) ≡ false → anyB f (drop (i + 1) (used m a)) ≡ anyB f (drop i (used m a))
-  unfolding anyB
-  any-miss lt w = rw (at-cons (used m a) i d lt, ← used-get m a i d lt, w)
+  -- one place more
+  pub any-more : (i : ℕ) → anyB f (table g (i + 1)) ≡ (anyB f (table g i) || f (g i))
+  any-more i = ap (anyB f) (table-more g i) ∙ any-append f (table g i) (g i ∷ []) ∙ rw (last (g i))
 
-  pub any-end : length (used m a) ≤ i → anyB f (drop i (used m a)) ≡ false
-  unfolding anyB
-  any-end le = rw (at-end (used m a) i le)
+  pub any-miss : (i : ℕ) → anyB f (table g i) ≡ false → f (g i) ≡ false → anyB f (table g (i + 1)) ≡ false
+  any-miss i h e = any-more i ∙ rw (h, e)
 
-module _ (s : Store) (i : ℕ) where
-  module _ (f : Picture → Bool) where
-    pub first-hit : i < length (view s) → f (getD (s .pics) i blank) ≡ true → firstOf f (drop i (view s)) ≡ getD (s .pics) i blank .serial
-    unfolding firstOf
-    first-hit lt w = rw (at-cons (view s) i blank lt, ← get s i lt, w)
+  pub any-hit : (i n : ℕ) → i < n → f (g i) ≡ true → anyB f (table g n) ≡ true
+  any-hit i zero lt e = absurd (omega arith)
+  any-hit i (suc n) lt e =
+      let m : anyB f (table g (suc n)) ≡ (anyB f (table g n) || f (g n)) = rw (← add-one n) (any-more n) in
+      m
+      ∙ split (eqb i n)
+      (λ q. let x : i ≡ n = eqb-true i n q in or-right (anyB f (table g n)) (f (g n)) (ap (λ (k : ℕ). f (g k)) (sym x) ∙ e))
+      (λ q. let d = eqb-false i n q in or-left (anyB f (table g n)) (f (g n)) (any-hit i n (omega arith) e))
 
-    pub first-miss : i < length (view s) → f (getD (s .pics) i blank) ≡ false → firstOf f (drop (i + 1) (view s)) ≡ firstOf f (drop i (view s))
-    unfolding firstOf
-    first-miss lt w = rw (at-cons (view s) i blank lt, ← get s i lt, w)
+-- ---- the first that is found
 
-    pub first-end : length (view s) ≤ i → firstOf f (drop i (view s)) ≡ missing
-    unfolding firstOf
-    first-end le = rw (at-end (view s) i le)
+first-front : (f : Picture → Bool) (a b : List Picture) → anyB f a ≡ true → firstOf f (a ++ b) ≡ firstOf f a
+unfolding anyB firstOf
+first-front f [] b e = absurd (let z : _≡_ {A = ℕ} 0 1 = cc in omega arith)
+first-front f (x ∷ a) b e = split (f x) (λ p. rw p) (λ p. rw p (first-front f a b (rw p at e)))
 
--- ---- building loops: one element more
+first-rest : (f : Picture → Bool) (a b : List Picture) → anyB f a ≡ false → firstOf f (a ++ b) ≡ firstOf f b
+unfolding anyB firstOf
+first-rest f [] b e = refl
+first-rest f (x ∷ a) b e = split (f x) (λ p. absurd (let z : _≡_ {A = ℕ} 0 1 = cc in omega arith)) (λ p. rw p (first-rest f a b (rw p at e)))
 
-module _ {A : Type 0} (f : A → Bool) where
-  pub keep-append : (a b : List A) → keep f (a ++ b) ≡ keep f a ++ keep f b
-  unfolding keep
-  keep-append [] b = refl
-  keep-append (p ∷ a) b = go (f p) (keep-append a b)
-    where
-      go : (t : Bool) → keep f (a ++ b) ≡ keep f a ++ keep f b → cond t (p ∷ keep f (a ++ b)) (keep f (a ++ b)) ≡ cond t (p ∷ keep f a) (keep f a) ++ keep f b
-      go true h = rw h
-      go false h = h
+pub first-none : (f : Picture → Bool) (ps : List Picture) → anyB f ps ≡ false → firstOf f ps ≡ missing
+unfolding anyB firstOf
+first-none f ps e = ap (firstOf f) (sym (append-nil ps)) ∙ first-rest f ps [] e
 
-  pub keep-short : (l : List A) → length (keep f l) ≤ length l
-  unfolding keep
-  keep-short [] = omega arith
-  keep-short (p ∷ l) = go (f p) (keep-short l)
-    where
-      go : (t : Bool) → length (keep f l) ≤ length l → length (cond t (p ∷ keep f l) (keep f l)) ≤ length (p ∷ l)
-      go true h = omega arith
-      go false h = omega arith
-
-  pub keep-more : (l : List A) (i : ℕ) (d : A) → i < length l → keep f (take (i + 1) l) ≡ keep f (take i l) ++ keep f (getD l i d ∷ [])
-  keep-more l i d lt = rw (take-more l i d lt, keep-append)
-
-  -- no more are kept of the front of a list than of the list
-  pub keep-front : (l : List A) (i : ℕ) → length (keep f (take i l)) ≤ length (keep f l)
-  keep-front l i =
-      let e : keep f (take i l) ++ keep f (drop i l) ≡ keep f l = sym (keep-append (take i l) (drop i l)) ∙ ap (keep f) (take-append-drop i l) in
-      omega (arith, ap length e, length-append (keep f (take i l)) (keep f (drop i l)))
-
-  module _ {B : Type 0} (g : A → B) where
-    -- those kept, each through g
-    pub sift-more : (l : List A) (i : ℕ) (d : A) → i < length l → map g (keep f (take (i + 1) l)) ≡ map g (keep f (take i l)) ++ map g (keep f (getD l i d ∷ []))
-    sift-more l i d lt = rw (keep-more l i d lt) (map-append g (keep f (take i l)) (keep f (getD l i d ∷ [])))
-
-    pub sift-short : (l : List A) (i : ℕ) → length (map g (keep f (take i l))) ≤ i
-    sift-short l i = omega (arith, keep-short (take i l), length-take i l, length-map (keep f (take i l)) g)
-
-pub map-more : {A B : Type 0} (f : A → B) (l : List A) (i : ℕ) (d : A) → i < length l → map f (take (i + 1) l) ≡ map f (take i l) ++ (f (getD l i d) ∷ [])
-map-more f l i d lt = rw (take-more l i d lt, map-append)
-
--- a store that holds the pictures walked over, changed: one more
-pub map-turn : (f : Picture → Picture) (s t r : Store) (i : ℕ) → i < length (view s) → Holds t (map f (take i (view s))) → Holds r (view t ++ (f (getD (s .pics) i blank) ∷ []))
-    → (r .len ≡ i + 1) × Holds r (map f (take (i + 1) (view s)))
-map-turn f s t r i lt h g =
-    let e = rw (is-view h, get s i lt, ← map-more f (view s) i blank lt) at g in
-    let n : length (map f (take (i + 1) (view s))) ≡ i + 1 = simp (length-map, length-take) (omega arith) in
-    (omega (arith, e .long), e)
-
-pub map-same : {A : Type 0} (l : List A) → map (λ (x : A). x) l ≡ l
-map-same [] = refl
-map-same (x ∷ l) = rw (map-same l)
-
--- what came before, and one element more
-pub behind : {A : Type 0} (a b c : List A) {d : List A} → d ≡ b ++ c → (a ++ b) ++ c ≡ a ++ d
-behind a b c e = rw e (append-assoc a b c)
+pub first-hit : (f : Picture → Bool) (g : ℕ → Picture) (i n : ℕ) → i < n → anyB f (table g i) ≡ false → f (g i) ≡ true → firstOf f (table g n) ≡ g i .serial
+unfolding firstOf
+first-hit f g i zero lt h e = absurd (omega arith)
+first-hit f g i (suc n) lt h e =
+    let m : table g (suc n) ≡ table g n ++ (g n ∷ []) = rw (← add-one n) (table-more g n) in
+    ap (firstOf f) m
+    ∙ split (eqb i n)
+    (λ q. let x : i ≡ n = eqb-true i n q in first-rest f (table g n) (g n ∷ []) (rw x at h) ∙ rw (← x, e))
+    (λ q. let d = eqb-false i n q in first-front f (table g n) (g n ∷ []) (any-hit f g i n (omega arith) e) ∙ first-hit f g i n (omega arith) h e)

@@ -1,6 +1,5 @@
-pub mod Store
-pub mod Sets
 pub mod Walks
-pub mod References
-pub mod Members
-pub mod Plan
+pub mod Shelf
+pub mod Tails
+pub mod Bumps
+pub mod Runs

@@ -1,6 +1,5 @@
 -- What a walk over the stored pictures looks for or does, as tests and changes of one picture.
 use mathlib.Core.Bool.{Bool, true, false, cond, not, _&&_}
-use mathlib.Core.List.{List}
 use Prim.Native.Nat.{ℕ, _^_, min}
 use lib.Dec.{eqb, leb}
 use lib.IntN.{ℤ, pos}
@@ -8,13 +7,12 @@ use Rattle.paper.specs.Poc.{modZ, eqZ}
 use Rattle.paper.specs.State.{isMarked, isShortTerm}
 use Rattle.paper.specs.Sets.{marked}
 use Rattle.paper.specs.Step.{heldBy}
-use Rattle.paper.specs.Output.{Moved, leave, stay}
 use Rattle.paper.specs.declared.Serial.{Serial}
 use Rattle.paper.specs.declared.Surface.{Surface}
 use Rattle.paper.specs.declared.Mark.the-variants.{Unmarked}
 use Rattle.paper.specs.declared.Picture.{Picture}
 use Rattle.store.specs.declared.pictures.Sought.{Sought}
-use Rattle.store.specs.declared.pictures.Sought.the-variants.{AnyAt, LowAt, ShortAt, LateBy, HeldBy}
+use Rattle.store.specs.declared.pictures.Sought.the-variants.{AnyAt, LowAt, ShortAt, HeldBy}
 
 -- "any mark and equal POC", "or equal POC mod M", "short-term .. of equal POC"
 abbrev pub anyAt : ℤ → Picture → Bool
@@ -34,7 +32,6 @@ abbrev pub passing : Sought → Picture → Bool
 passing (AnyAt z) = anyAt z
 passing (LowAt k z) = lowAt (2 ^ (min k 16)) z
 passing (ShortAt z) = shortAt z
-passing (LateBy n) = lateBy n
 passing (HeldBy x) = heldBy x
 
 -- another picture than that of serial n
@@ -47,9 +44,6 @@ serialOf p = p .serial
 abbrev pub surfaceOf : Picture → Surface
 surfaceOf p = p .surface
 
--- the hand-outs of the paper with the list last, as `andThen` takes them
-abbrev pub leaving : Picture → List Picture → Moved
-leaving p ps = leave ps p
-
-abbrev pub staying : Picture → List Picture → Moved
-staying p ps = stay ps p
+-- a picture where there is none
+abbrev pub blank : Picture
+blank = record { serial = record { 0 = 0 }; surface = record { 0 = 0 }; poc = pos 0; mark = Unmarked; waiting = false; count = 0 }

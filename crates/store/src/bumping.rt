@@ -1,20 +1,30 @@
-// Handing out (C.5.2.2 to C.5.2.4), decided on columns of the stored pictures: which still wait, which are gone, and which places were
-// handed out or left, in order.
+// Handing out (C.5.2.2 to C.5.2.4).
 ghost use mathlib.Core.Path.{_≡_};
-ghost use mathlib.Core.Bool.{cond, true};
-ghost use lib.ListN.{length};
+ghost use mathlib.Core.Bool.{not, _||_};
+ghost use mathlib.Core.List.{[], _∷_, _++_};
 ghost use lib.Signed.{ltZ};
-ghost use Prim.Native.Nat.{_≤_, _<_};
-ghost use Rattle.store.specs.declared.bumping.Rule.the-variants.{Due};
-ghost use Rattle.store.specs.Plan.{seen as seenBy, met as metBy, Scans, Bumped, columns, planned, Ready, Carried, HandsOut, alwaysBy, latencyBy, turnsBy, lateScan, dueScan};
+ghost use Prim.Native.Nat.{_+_, _≤_, _<_};
+ghost use Rattle.paper.specs.declared.Picture.{Picture};
+ghost use Rattle.store.specs.Shelf.{pictureAt};
+ghost use Rattle.paper.specs.State.{isMarked};
+ghost use Rattle.store.specs.Tails.{shownIn};
+ghost use Rattle.store.specs.Bumps.{Scans, seenBy, dueBy, dueScan, alwaysBy, latencyBy, turnsBy, Settles, Bumps, Rounds};
 use crate::Store;
+use crate::Tally;
+use crate::changing::end_waiting;
+use crate::leaving::leave;
+use crate::pictures::is_marked;
+use crate::places::count_handed;
+use crate::places::count_released;
+use crate::places::picture_at;
 use paper::Limits;
+use paper::Picture;
+use paper::Shown;
 
-// What one walk over the pictures finds: how many wait, how many are stored, whether one that waits is late, and the place and the POC of
-// the lowest that waits, the earlier stored one on a tie.
+// What one walk over the pictures finds: how many wait, whether one of them is late, and the place and the POC of the lowest, the
+// earlier stored one on a tie.
 pub struct Scan {
     pub waiting: usize,
-    pub stored: usize,
     pub late: bool,
     pub at: usize,
     pub poc: i32,
@@ -27,27 +37,6 @@ pub enum Rule {
     Due(Limits, bool),
 }
 
-// How many places were handed out so far, and how many left.
-pub struct Tally {
-    pub shown: usize,
-    pub left: usize,
-}
-
-impl Tally {
-    // Places for two rounds of handing out, sixteen pictures each.
-    pub const SHOWN: usize = 32;
-
-    // And for a removal or clearing of sixteen more.
-    pub const LEFT: usize = 48;
-}
-
-// 1 for true.
-pub(crate) fn one(b: bool) -> usize
-    ensures { λ r. ⌜ r ≡ cond b 1 0 ⌝ }
-{
-    if b { 1 } else { 0 }
-}
-
 // Whether a POC is lower than another.
 fn lower(a: i32, b: i32) -> bool
     ensures { λ r. ⌜ r ≡ ltZ a b ⌝ }
@@ -55,75 +44,47 @@ fn lower(a: i32, b: i32) -> bool
     a < b
 }
 
-// A picture that waits: the lowest so far if it is the first or lower than that.
-fn seen(c: Scan, i: usize, poc: i32, late: bool) -> Scan
+// A picture more: the lowest so far if it waits and is the first that does, or lower than that.
+fn seen(c: Scan, i: usize, p: Picture, latency: u32) -> Scan
     requires { ⌜ c .waiting < 16 ⌝ }
-    requires { ⌜ c .stored < 16 ⌝ }
-    ensures { λ r. ⌜ r ≡ seenBy c i poc late ⌝ }
+    ensures { λ r. ⌜ r ≡ seenBy c i p latency ⌝ }
 {
-    if (c.waiting == 0) | lower(poc, c.poc) {
+    if !p.waiting {
+        return c;
+    }
+    let late = c.late | (latency <= p.count);
+    if (c.waiting == 0) | lower(p.poc, c.poc) {
         Scan {
             waiting: c.waiting + 1,
-            stored: c.stored + 1,
-            late: c.late | late,
+            late,
             at: i,
-            poc,
+            poc: p.poc,
         }
     } else {
         Scan {
             waiting: c.waiting + 1,
-            stored: c.stored + 1,
-            late: c.late | late,
+            late,
             at: c.at,
             poc: c.poc,
         }
     }
 }
 
-// A picture that waits, is only stored, or is gone.
-fn met(c: Scan, waits: bool, gone: bool, i: usize, poc: i32, late: bool) -> Scan
-    requires { ⌜ c .waiting < 16 ⌝ }
-    requires { ⌜ c .stored < 16 ⌝ }
-    ensures { λ r. ⌜ r ≡ metBy c waits gone i poc late ⌝ }
-{
-    if waits & !gone {
-        seen(c, i, poc, late)
-    } else {
-        let k = one(!gone);
-        Scan {
-            waiting: c.waiting,
-            stored: c.stored + k,
-            late: c.late,
-            at: c.at,
-            poc: c.poc,
-        }
-    }
-}
-
-// The waiting picture with the lowest POC, the earlier stored one on a tie, and what the tests of due ask for.
-fn find_lowest_poc_for_bumping(
-    n: usize,
-    latency: u32,
-    pocs: &[i32; Store::CAPACITY],
-    counts: &[u32; Store::CAPACITY],
-    waits: &[bool; Store::CAPACITY],
-    gone: &[bool; Store::CAPACITY],
-) -> Scan
+// The waiting picture with the lowest POC, the earlier stored one on a tie, and what the tests of due ask for, of the first n.
+fn find_lowest_poc_for_bumping(t: &[u32; Store::WORDS], n: usize, latency: u32) -> Scan
     requires { ⌜ n ≤ 16 ⌝ }
-    ensures { λ r. ⌜ Scans n latency (now (pocs .entry)) (now (counts .entry)) (now (waits .entry)) (now (gone .entry)) r ⌝ }
+    ensures { λ r. ⌜ Scans (now (t .entry)) n latency r ⌝ }
 {
     let mut c = Scan {
         waiting: 0,
-        stored: 0,
         late: false,
         at: 0,
         poc: 0,
     };
     let mut i: usize = 0;
     while i < n {
-        let poc = pocs[i];
-        let late = latency <= counts[i];
-        c = met(c, waits[i], gone[i], i, poc, late);
+        let p = picture_at(t, i);
+        c = seen(c, i, p, latency);
         i += 1;
     }
     c
@@ -131,33 +92,22 @@ fn find_lowest_poc_for_bumping(
 
 // Whether a picture is due without the buffering test: more wait than may, or one is late (C.5.2.3).
 fn needs_additional_bumping(c: Scan, l: Limits) -> bool
-    ensures { λ r. ⌜ r ≡ lateScan l c ⌝ }
+    ensures { λ r. ⌜ r ≡ dueBy l (c .waiting) (c .late) ⌝ }
 {
     let latency = l.latency as u32;
     let over = (l.reorder as usize) < c.waiting;
     over | (!(latency == 0) & c.late)
 }
 
-// Whether a picture is due (C.5.2.2).
-fn needs_bumping(c: Scan, l: Limits) -> bool
-    ensures { λ r. ⌜ r ≡ dueScan (Due l true) c ⌝ }
-{
-    let late = needs_additional_bumping(c, l);
-    late | ((l.buffering as usize) <= c.stored)
-}
-
-// Whether a picture is to be handed out, if one waits.
-fn is_due(rule: Rule, c: Scan) -> bool
-    ensures { λ r. ⌜ r ≡ dueScan rule c ⌝ }
+// Whether a picture is to be handed out, if one waits: by the rule's tests, with the buffering test where it asks for it (C.5.2.2).
+fn needs_bumping(rule: Rule, c: Scan, stored: usize) -> bool
+    ensures { λ r. ⌜ r ≡ dueScan rule c stored ⌝ }
 {
     match rule {
         Rule::All => true,
         Rule::Due(l, buffered) => {
-            if buffered {
-                needs_bumping(c, l)
-            } else {
-                needs_additional_bumping(c, l)
-            }
+            let full = (l.buffering as usize) <= stored;
+            needs_additional_bumping(c, l) | (buffered & full)
         }
     }
 }
@@ -182,97 +132,103 @@ fn latency_of(rule: Rule) -> u32
     }
 }
 
-// The pictures of a serial no longer wait, and leave if so told.
-fn end_waiting(
-    n: usize,
-    serial: u32,
-    leaves: bool,
-    serials: &[u32; Store::CAPACITY],
-    waits: &mut [bool; Store::CAPACITY],
-    gone: &mut [bool; Store::CAPACITY],
-)
-    requires { ⌜ n ≤ 16 ⌝ }
-    requires { ⌜ length (now waits) ≡ 16 ⌝ }
-    requires { ⌜ length (now gone) ≡ 16 ⌝ }
-    ensures { λ _. ⌜ Bumped n serial leaves (now (serials .entry)) (now (waits .entry)) (now (gone .entry)) (now (waits .exit)) (now (gone .exit)) ⌝ }
+// A picture handed out, behind the first k.
+fn put_shown(handed: &mut [u32; Store::HANDED], k: usize, p: Shown)
+    requires { ⌜ k < 32 ⌝ }
+    ensures { λ _. ⌜ shownIn (now (handed .exit)) (k + 1) ≡ shownIn (now (handed .entry)) k ++ (p ∷ []) ⌝ }
 {
-    let mut i: usize = 0;
-    while i < n {
-        let same = serial == serials[i];
-        waits[i] = waits[i] & !same;
-        gone[i] = gone[i] | (same & leaves);
-        i += 1;
+    count_handed(*handed);
+    let serial = p.serial;
+    let surface = p.surface;
+    handed[3 * k] = serial.0;
+    handed[3 * k + 1] = surface.0;
+    handed[3 * k + 2] = wire::bits(p.poc);
+}
+
+// The picture that is handed out leaves ("bumping", C.5.2.4), or stays and no longer waits.
+fn settle(
+    t: &mut [u32; Store::WORDS],
+    c: Tally,
+    p: Picture,
+    leaves: bool,
+    released: &mut [u32; Store::RELEASED],
+) -> Tally
+    requires { ⌜ (c .stored ≤ 16) × (c .handed < 32) × (c .released < 49) ⌝ }
+    ensures { λ r. ⌜ Settles p leaves (now (t .entry)) (now (released .entry)) c (now (t .exit)) (now (released .exit)) r ⌝ }
+{
+    count_released(*released);
+    let serial = p.serial;
+    let surface = p.surface;
+    let n = c.stored;
+    let k = c.released;
+    if leaves {
+        released[k] = surface.0;
+        let left = leave(t, n, serial);
+        return Tally {
+            stored: left,
+            handed: c.handed + 1,
+            thrown: c.thrown,
+            released: k + 1,
+        };
+    }
+    end_waiting(t, n, serial);
+    Tally {
+        stored: n,
+        handed: c.handed + 1,
+        thrown: c.thrown,
+        released: k,
     }
 }
 
-// The picture that was found is handed out ("bumping", C.5.2.4). It leaves if it is unmarked, or always.
+// The picture at a place is handed out. It leaves if it is unmarked, or always.
 fn bump(
-    x: Scan,
+    t: &mut [u32; Store::WORDS],
+    c: Tally,
+    at: usize,
     always: bool,
-    t: Tally,
-    n: usize,
-    serials: &[u32; Store::CAPACITY],
-    marks: &[u8; Store::CAPACITY],
-    waits: &mut [bool; Store::CAPACITY],
-    gone: &mut [bool; Store::CAPACITY],
-    shown: &mut [u8; Tally::SHOWN],
-    left: &mut [u8; Tally::LEFT],
+    handed: &mut [u32; Store::HANDED],
+    released: &mut [u32; Store::RELEASED],
 ) -> Tally
-    requires { ⌜ Ready n (planned (now waits) (now gone) (now shown) (now left) t) ⌝ }
-    requires { ⌜ x .at < n ⌝ }
-    requires { ⌜ t .shown < 32 ⌝ }
-    requires { ⌜ t .left < 48 ⌝ }
-    ensures { λ r. ⌜ HandsOut n (now (serials .entry)) (now (marks .entry)) x always (planned (now (waits .entry)) (now (gone .entry)) (now (shown .entry)) (now (left .entry)) t) (planned (now (waits .exit)) (now (gone .exit)) (now (shown .exit)) (now (left .exit)) r) ⌝ }
+    requires { ⌜ (at < c .stored) × (c .stored ≤ 16) × (c .handed < 32) × (c .released < 49) ⌝ }
+    ensures { λ r. ⌜ Bumps (pictureAt (now (t .entry)) at) (always || not (isMarked (pictureAt (now (t .entry)) at .mark))) (now (t .entry)) (now (handed .entry)) (now (released .entry)) c (now (t .exit)) (now (handed .exit)) (now (released .exit)) r ⌝ }
 {
-    let at = x.at;
-    let leaves = always | (marks[at] == 0);
-    end_waiting(n, serials[at], leaves, serials, waits, gone);
-    let k = t.shown;
-    let m = t.left;
-    shown[k] = at as u8;
-    left[m] = at as u8;
-    let more = one(leaves);
-    let outs = k + 1;
-    let freed = m + more;
-    Tally {
-        shown: outs,
-        left: freed,
-    }
+    let p = picture_at(t, at);
+    let serial = p.serial;
+    let surface = p.surface;
+    let m = p.mark;
+    let x = Shown {
+        serial,
+        surface,
+        poc: p.poc,
+    };
+    put_shown(handed, c.handed, x);
+    settle(t, c, p, always | !is_marked(m), released)
 }
 
 // Pictures are handed out by a rule while one waits: as many turns as are stored, which is enough, since a turn hands one out or is the
 // last (C.5.2.2, C.5.2.3).
 pub(crate) fn bump_as_needed(
+    t: &mut [u32; Store::WORDS],
+    c: Tally,
     rule: Rule,
-    t: Tally,
-    n: usize,
-    serials: &[u32; Store::CAPACITY],
-    pocs: &[i32; Store::CAPACITY],
-    marks: &[u8; Store::CAPACITY],
-    counts: &[u32; Store::CAPACITY],
-    waits: &mut [bool; Store::CAPACITY],
-    gone: &mut [bool; Store::CAPACITY],
-    shown: &mut [u8; Tally::SHOWN],
-    left: &mut [u8; Tally::LEFT],
+    handed: &mut [u32; Store::HANDED],
+    released: &mut [u32; Store::RELEASED],
 ) -> Tally
-    requires { ⌜ Ready n (planned (now waits) (now gone) (now shown) (now left) t) ⌝ }
-    requires { ⌜ t .shown ≤ 16 ⌝ }
-    requires { ⌜ t .left ≤ 32 ⌝ }
-    ensures { λ r. ⌜ Carried n (columns (now (serials .entry)) (now (pocs .entry)) (now (marks .entry)) (now (counts .entry))) (turnsBy rule) (planned (now (waits .entry)) (now (gone .entry)) (now (shown .entry)) (now (left .entry)) t) (planned (now (waits .exit)) (now (gone .exit)) (now (shown .exit)) (now (left .exit)) r) ⌝ }
+    requires { ⌜ (c .stored ≤ 16) × (c .handed ≤ 16) × (c .released ≤ 33) ⌝ }
+    ensures { λ r. ⌜ Rounds (turnsBy rule) (now (t .entry)) (now (handed .entry)) (now (released .entry)) c (now (t .exit)) (now (handed .exit)) (now (released .exit)) r ⌝ }
 {
     let latency = latency_of(rule);
     let always = leaves_always(rule);
-    let mut x = find_lowest_poc_for_bumping(n, latency, pocs, counts, waits, gone);
-    let turns = x.stored;
-    let mut r = t;
+    let turns = c.stored;
+    let mut r = c;
     let mut i: usize = 0;
     while i < turns {
-        let due = is_due(rule, x);
+        let x = find_lowest_poc_for_bumping(t, r.stored, latency);
+        let due = needs_bumping(rule, x, r.stored);
         if (x.waiting == 0) | !due {
             return r;
         }
-        r = bump(x, always, r, n, serials, marks, waits, gone, shown, left);
-        x = find_lowest_poc_for_bumping(n, latency, pocs, counts, waits, gone);
+        r = bump(t, r, x.at, always, handed, released);
         i += 1;
     }
     r

@@ -9,7 +9,7 @@ ghost use Rattle.paper.specs.State.{isMarked, isShortTerm, countLimit};
 ghost use Rattle.paper.specs.Numbers.{sameSerial};
 ghost use Rattle.paper.specs.Step.{heldBy};
 ghost use Rattle.paper.specs.Sets.{marked};
-ghost use Rattle.store.specs.Walks.{anyAt, lowAt, shortAt, lateBy, passing};
+ghost use Rattle.store.specs.Walks.{anyAt, lowAt, shortAt, passing};
 use derivation::modular::low_bits;
 use paper::Mark;
 use paper::Picture;
@@ -20,12 +20,11 @@ use paper::Surface;
 const COUNT_LIMIT: u32 = 2147483647;
 
 // What a walk over the stored pictures looks for: any mark and this POC; any mark and a POC of these low k bits; a short-term
-// picture of this POC; one that waits with a count of so much; one that holds this surface.
+// picture of this POC; one that holds this surface.
 pub enum Sought {
     AnyAt(i32),
     LowAt(u8, i32),
     ShortAt(i32),
-    LateBy(u32),
     HeldBy(Surface),
 }
 
@@ -90,13 +89,6 @@ fn is_short_at(p: Picture, poc: i32) -> bool
     is_short_term(m) & same_poc(p.poc, poc)
 }
 
-// Whether p waits and its count has reached n.
-fn is_late_by(p: Picture, n: u32) -> bool
-    ensures { λ r. ⌜ r ≡ lateBy n p ⌝ }
-{
-    p.waiting & (n <= p.count)
-}
-
 // Whether p holds the surface x.
 fn is_held_by(p: Picture, x: Surface) -> bool
     ensures { λ r. ⌜ r ≡ heldBy x p ⌝ }
@@ -113,7 +105,6 @@ pub(crate) fn passes(t: Sought, p: Picture) -> bool
         Sought::AnyAt(poc) => is_any_at(p, poc),
         Sought::LowAt(k, low) => is_low_at(p, k, low),
         Sought::ShortAt(poc) => is_short_at(p, poc),
-        Sought::LateBy(n) => is_late_by(p, n),
         Sought::HeldBy(x) => is_held_by(p, x),
     }
 }

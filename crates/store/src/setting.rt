@@ -1,211 +1,203 @@
-// The sets of a picture (8.3.2).
+// The sets of a picture (8.3.2): searches and marks, step 4 of begin.
 ghost use mathlib.Core.Path.{_≡_};
-ghost use mathlib.Core.List.{List, [], _∷_, _++_};
+ghost use mathlib.Core.List.{[], _∷_, _++_};
 ghost use Prim.Native.Nat.{_+_, _^_, _≤_, _<_, min};
-ghost use lib.ListN.{take, drop};
-ghost use Rattle.paper.specs.Words.{keep};
-ghost use Rattle.paper.specs.Sets.{longSet, shortSet, unmarkedIf, marksOf, setsOf};
-ghost use Rattle.paper.specs.declared.Picture.{Picture};
-ghost use Rattle.paper.specs.declared.Serial.{Serial};
-ghost use Rattle.store.specs.Store.{view};
-ghost use Rattle.store.specs.References.{Shows, HoldsRun};
-ghost use Rattle.store.specs.Members.{flagged, answers, Span, Ordered, HoldsThree};
-ghost use Rattle.store.specs.Sets.{wishesIn, Few, HoldsRefs, HoldsRest, HoldsDerived};
-use crate::Derived;
-use crate::Rest;
-use crate::Sets;
+ghost use Rattle.paper.specs.Numbers.{bit, aSerial};
+ghost use Rattle.paper.specs.Sets.{unmarkedIf, marksOf, setsOf};
+ghost use Rattle.store.specs.Shelf.{stored};
+ghost use Rattle.store.specs.Tails.{serialsIn};
+ghost use Rattle.store.specs.Runs.{wishesAt, wishesIn, answer, Joins, JoinsOne, MarksLong, KeepsMarks, Derives};
+use crate::Sizes;
 use crate::Store;
-use crate::Wanted16;
-use crate::marking::mark_where;
-use crate::references::references_of;
-use crate::references::with_marks;
-use crate::runs::join_runs;
-use crate::runs::serials_of;
-use crate::searching::Ask;
-use crate::searching::find_wish;
-use derivation::rows::Refs;
+use crate::changing::mark_where;
+use crate::places::count_run;
+use crate::searching::find_ref_by_poc;
+use crate::searching::find_ref_by_poc_masked;
+use crate::searching::find_short_term_ref_by_poc;
+use derivation::flag_bytes;
 use paper::Mark;
-use paper::Wish;
+use paper::Serial;
 
-// How many members a run has: of its first set, of its first two, and of all three.
-pub struct Sizes {
-    pub first: usize,
-    pub both: usize,
-    pub all: usize,
+// How many members two runs have: one of the used entries, one of the others.
+pub struct Runs {
+    pub used: usize,
+    pub rest: usize,
 }
 
-// Whether a wish has this flag.
-fn is_flagged(e: Wish, used: bool) -> bool
-    ensures { λ r. ⌜ r ≡ flagged used e ⌝ }
+// What an entry asks for, by the search for long-term pictures or for short-term ones; bit 1 of `how`: by its whole POC.
+fn find_wish(t: &[u32; Store::WORDS], long: bool, k: u8, poc: i32, how: u8) -> Serial
+    ensures { λ r. ⌜ r ≡ answer long (2 ^ (min k 16)) (stored (now (t .entry))) (record { poc = poc; used = bit 0 how; whole = bit 1 how }) ⌝ }
 {
-    if used { e.used } else { !e.used }
-}
-
-// What a wish asks for joins the run, if the wish has the flag; how many members it has then.
-fn find_one(
-    pocs: &[i32; Store::CAPACITY],
-    marks: &[u8; Store::CAPACITY],
-    names: &[u32; Store::CAPACITY],
-    stored: usize,
-    a: Ask,
-    e: Wish,
-    into: &mut [u32; Store::CAPACITY],
-    len: usize,
-) -> usize
-    requires { ⌜ (stored ≤ 16) × (len < 16) ⌝ }
-    ensures few { λ r. ⌜ (len ≤ r) × (r ≤ len + 1) ⌝ }
-    ensures finds { λ r. ⌜ ((ps : List Picture) (l : List Serial) → Shows ps (now (pocs .entry)) (now (marks .entry)) (now (names .entry)) stored → HoldsRun (now (into .entry)) len l → HoldsRun (now (into .exit)) r (l ++ answers a ps (e ∷ []))) ⌝ }
-{
-    if is_flagged(e, a.used) {
-        let m = find_wish(pocs, marks, names, stored, a, e);
-        into[len] = m;
-        len + 1
+    if !long {
+        return find_short_term_ref_by_poc(t, poc);
+    }
+    if flag_bytes::bit1(how) {
+        find_ref_by_poc(t, poc)
     } else {
-        len
+        find_ref_by_poc_masked(t, k, poc)
     }
 }
 
-// What the n wishes from a place on ask for joins the run, of those that have the flag; how many members it has then.
+// A number joins a run as a member, behind the first k.
+fn put_member(us: &mut [u32; Store::CAPACITY], k: usize, x: u32)
+    requires { ⌜ k < 16 ⌝ }
+    ensures { λ _. ⌜ serialsIn (now (us .exit)) (k + 1) ≡ serialsIn (now (us .entry)) k ++ (aSerial x ∷ []) ⌝ }
+{
+    count_run(*us);
+    us[k] = x;
+}
+
+// A member joins the run of the used entries, or that of the others.
+fn join(
+    x: Serial,
+    used: bool,
+    us: &mut [u32; Store::CAPACITY],
+    vs: &mut [u32; Store::CAPACITY],
+    n: Runs,
+) -> Runs
+    requires { ⌜ (n .used < 16) × (n .rest < 16) ⌝ }
+    ensures { λ r. ⌜ JoinsOne x used (now (us .entry)) (now (vs .entry)) n (now (us .exit)) (now (vs .exit)) r ⌝ }
+{
+    let a = n.used;
+    let b = n.rest;
+    if used {
+        put_member(us, a, x.0);
+        Runs {
+            used: a + 1,
+            rest: b,
+        }
+    } else {
+        put_member(vs, b, x.0);
+        Runs {
+            used: a,
+            rest: b + 1,
+        }
+    }
+}
+
+// What n entries from a place on ask for joins the two runs.
 fn find_set(
+    t: &[u32; Store::WORDS],
+    long: bool,
+    k: u8,
     pocs: &[i32; Store::CAPACITY],
-    marks: &[u8; Store::CAPACITY],
-    names: &[u32; Store::CAPACITY],
-    stored: usize,
-    a: Ask,
-    wishes: [Wish; Store::CAPACITY],
+    hows: &[u8; Store::CAPACITY],
     from: usize,
     n: usize,
-    into: &mut [u32; Store::CAPACITY],
-    len: usize,
-) -> usize
-    requires { ⌜ (stored ≤ 16) × Span from n len ⌝ }
-    ensures few { λ r. ⌜ (len ≤ r) × (r ≤ len + n) ⌝ }
-    ensures finds { λ r. ⌜ ((ps : List Picture) (l : List Serial) → Shows ps (now (pocs .entry)) (now (marks .entry)) (now (names .entry)) stored → HoldsRun (now (into .entry)) len l → HoldsRun (now (into .exit)) r (l ++ answers a ps (take n (drop from wishes)))) ⌝ }
+    us: &mut [u32; Store::CAPACITY],
+    vs: &mut [u32; Store::CAPACITY],
+    x: Runs,
+) -> Runs
+    requires { ⌜ (from + n ≤ 16) × (x .used + x .rest + n ≤ 16) ⌝ }
+    ensures few { λ r. ⌜ (r .used + r .rest ≡ x .used + x .rest + n) × (x .used ≤ r .used) × (x .rest ≤ r .rest) ⌝ }
+    ensures joins { λ r. ⌜ Joins long (2 ^ (min k 16)) (stored (now (t .entry))) (wishesAt (now (pocs .entry)) (now (hows .entry)) from n) (now (us .entry)) (now (vs .entry)) x (now (us .exit)) (now (vs .exit)) r ⌝ }
 {
-    let mut t = len;
+    let mut r = x;
     let mut i: usize = 0;
     while i < n {
         let at = from + i;
-        let e = wishes[at];
-        t = find_one(pocs, marks, names, stored, a, e, into, t);
+        let how = hows[at];
+        let poc = pocs[at];
+        let m = find_wish(t, long, k, poc, how);
+        r = join(m, flag_bytes::bit0(how), us, vs, r);
         i += 1;
     }
-    t
+    r
 }
 
-// What the n wishes from a place on ask for, of those of one flag, by the search for long-term pictures; how many that are.
-fn find_long(
-    pocs: &[i32; Store::CAPACITY],
-    marks: &[u8; Store::CAPACITY],
-    names: &[u32; Store::CAPACITY],
-    stored: usize,
+// The first n of a run stand behind the first `at` of another.
+fn append(us: &mut [u32; Store::CAPACITY], at: usize, xs: &[u32; Store::CAPACITY], n: usize)
+    requires { ⌜ at + n ≤ 16 ⌝ }
+    ensures { λ _. ⌜ serialsIn (now (us .exit)) (at + n) ≡ serialsIn (now (us .entry)) at ++ serialsIn (now (xs .entry)) n ⌝ }
+{
+    let mut i: usize = 0;
+    while i < n {
+        let x = xs[i];
+        put_member(us, at + i, x);
+        i += 1;
+    }
+}
+
+// An IRAP picture with NoRaslOutputFlag unmarks all.
+fn unmark_if(t: &mut [u32; Store::WORDS], over: bool)
+    ensures { λ _. ⌜ stored (now (t .exit)) ≡ unmarkedIf over (stored (now (t .entry))) ⌝ }
+{
+    if over {
+        let none = [0u32; Store::CAPACITY];
+        mark_where(t, &none, 0, &none, 0, false, Mark::Unmarked);
+    }
+}
+
+// What the long-term entries ask for is found, and those found become long-term.
+fn mark_long(
+    t: &mut [u32; Store::WORDS],
     k: u8,
-    used: bool,
-    wishes: [Wish; Store::CAPACITY],
+    pocs: &[i32; Store::CAPACITY],
+    hows: &[u8; Store::CAPACITY],
     from: usize,
     n: usize,
-    into: &mut [u32; Store::CAPACITY],
-) -> usize
-    requires { ⌜ (stored ≤ 16) × (from + n ≤ 16) ⌝ }
-    ensures few { λ r. ⌜ r ≤ n ⌝ }
-    ensures finds { λ r. ⌜ ((ps : List Picture) → Shows ps (now (pocs .entry)) (now (marks .entry)) (now (names .entry)) stored → HoldsRun (now (into .entry)) 0 [] → HoldsRun (now (into .exit)) r (longSet (2 ^ (min k 16)) ps (keep (flagged used) (take n (drop from wishes))))) ⌝ }
+    us: &mut [u32; Store::CAPACITY],
+    vs: &mut [u32; Store::CAPACITY],
+) -> Runs
+    requires { ⌜ from + n ≤ 16 ⌝ }
+    ensures { λ r. ⌜ MarksLong (2 ^ (min k 16)) (stored (now (t .entry))) (wishesAt (now (pocs .entry)) (now (hows .entry)) from n) n (now (t .exit)) (now (us .exit)) (now (vs .exit)) r ⌝ }
 {
-    let a = Ask {
-        long: true,
-        k,
-        used,
-    };
-    find_set(pocs, marks, names, stored, a, wishes, from, n, into, 0)
+    let none = Runs { used: 0, rest: 0 };
+    let r = find_set(t, true, k, pocs, hows, from, n, us, vs, none);
+    mark_where(t, us, r.used, vs, r.rest, true, Mark::LongTerm);
+    r
 }
 
-// What the neg wishes and then the pos wishes of one flag ask for, by the search for short-term pictures, and behind it a run that is found already.
-fn find_run(
+// The long-term members stand behind the short-term ones, and what is in none of the runs loses its mark.
+fn keep_marks(
+    t: &mut [u32; Store::WORDS],
+    us: &mut [u32; Store::CAPACITY],
+    vs: &mut [u32; Store::CAPACITY],
+    x: Runs,
+    lus: &[u32; Store::CAPACITY],
+    lvs: &[u32; Store::CAPACITY],
+    l: Runs,
+)
+    requires { ⌜ (x .used + l .used ≤ 16) × (x .rest + l .rest ≤ 16) ⌝ }
+    ensures { λ _. ⌜ KeepsMarks (now (t .entry)) (now (us .entry)) (now (vs .entry)) x (now (lus .entry)) (now (lvs .entry)) l (now (t .exit)) (now (us .exit)) (now (vs .exit)) ⌝ }
+{
+    append(us, x.used, lus, l.used);
+    append(vs, x.rest, lvs, l.rest);
+    let a = x.used + l.used;
+    let b = x.rest + l.rest;
+    mark_where(t, us, a, vs, b, false, Mark::Unmarked);
+}
+
+// Step 4 of begin (8.3.2): the long-term sets are found and marked, then the short-term ones found; what is in no set loses its mark. The wishes are neg, pos
+// and lt ones, one behind the other. The first run is StCurrBefore, StCurrAfter and LtCurr, the second StFoll and LtFoll.
+pub fn derive_and_mark_rps(
+    t: &mut [u32; Store::WORDS],
+    k: u8,
+    over: bool,
     pocs: &[i32; Store::CAPACITY],
-    marks: &[u8; Store::CAPACITY],
-    names: &[u32; Store::CAPACITY],
-    stored: usize,
-    used: bool,
-    wishes: [Wish; Store::CAPACITY],
+    hows: &[u8; Store::CAPACITY],
     neg: usize,
     pos: usize,
-    long: &[u32; Store::CAPACITY],
-    n: usize,
-    into: &mut [u32; Store::CAPACITY],
+    lt: usize,
+    us: &mut [u32; Store::CAPACITY],
+    vs: &mut [u32; Store::CAPACITY],
 ) -> Sizes
-    requires { ⌜ (stored ≤ 16) × (neg + pos + n ≤ 16) ⌝ }
-    ensures ordered { λ r. ⌜ Ordered r ⌝ }
-    ensures finds { λ r. ⌜ ((ps : List Picture) (l : List Serial) → Shows ps (now (pocs .entry)) (now (marks .entry)) (now (names .entry)) stored → HoldsRun (now (long .entry)) n l → HoldsRun (now (into .entry)) 0 [] → HoldsThree (now (into .exit)) r (shortSet ps (keep (flagged used) (take neg wishes))) (shortSet ps (keep (flagged used) (take pos (drop neg wishes)))) l) ⌝ }
+    requires { ⌜ neg + pos + lt ≤ 16 ⌝ }
+    ensures { λ r. ⌜ Derives (2 ^ (min k 16)) (unmarkedIf over (stored (now (t .entry)))) (wishesIn (now (pocs .entry)) (now (hows .entry)) neg pos lt) (now (t .exit)) (now (us .exit)) (now (vs .exit)) r ⌝ }
 {
-    let a = Ask {
-        long: false,
-        k: 0,
-        used,
-    };
-    let first = find_set(pocs, marks, names, stored, a, wishes, 0, neg, into, 0);
-    let both = find_set(pocs, marks, names, stored, a, wishes, neg, pos, into, first);
-    let all = join_runs(into, both, long, n);
-    Sizes { first, both, all }
-}
-
-// StCurrBefore, StCurrAfter and LtCurr, from their run.
-fn refs_of(run: &[u32; Store::CAPACITY], x: Sizes) -> Refs
-    requires { ⌜ Ordered x ⌝ }
-    ensures { λ r. ⌜ ((a b c : List Serial) → HoldsThree (now (run .entry)) x a b c → HoldsRefs r a b c) ⌝ }
-{
-    let items = serials_of(run, x.all);
-    let after = x.both - x.first;
-    let long = x.all - x.both;
-    Refs {
-        items,
-        before: x.first as u8,
-        after: after as u8,
-        long: long as u8,
+    unmark_if(t, over);
+    let mut lus = [0u32; Store::CAPACITY];
+    let mut lvs = [0u32; Store::CAPACITY];
+    let none = Runs { used: 0, rest: 0 };
+    let l = mark_long(t, k, pocs, hows, neg + pos, lt, &mut lus, &mut lvs);
+    let x = find_set(t, false, k, pocs, hows, 0, neg, us, vs, none);
+    let y = find_set(t, false, k, pocs, hows, neg, pos, us, vs, x);
+    keep_marks(t, us, vs, y, &lus, &lvs, l);
+    Sizes {
+        before: x.used,
+        after: y.used - x.used,
+        long: l.used,
+        foll: y.rest,
+        lt_foll: l.rest,
     }
-}
-
-// StFoll and LtFoll, from their run.
-fn rest_of(run: &[u32; Store::CAPACITY], x: Sizes) -> Rest
-    requires { ⌜ Ordered x ⌝ }
-    ensures { λ r. ⌜ ((a b c : List Serial) → HoldsThree (now (run .entry)) x a b c → HoldsRest r (a ++ b) c) ⌝ }
-{
-    let items = serials_of(run, x.all);
-    let long = x.all - x.both;
-    Rest {
-        items,
-        foll: x.both as u8,
-        lt_foll: long as u8,
-    }
-}
-
-// Step 4 of begin (8.3.2): the long-term sets are found and marked, then the short-term ones found; what is in no set loses its mark. Run a
-// is StCurrBefore, StCurrAfter and LtCurr one behind the other, run b StFoll and LtFoll.
-pub fn derive_and_mark_rps(s: Store, w: Wanted16, k: u8, unmark: bool) -> Derived
-    requires { ⌜ Few w ⌝ }
-    ensures { λ r. ⌜ HoldsDerived r (marksOf (2 ^ (min k 16)) (unmarkedIf unmark (view s)) (wishesIn w)) (setsOf (2 ^ (min k 16)) (unmarkedIf unmark (view s)) (wishesIn w)) ⌝ }
-{
-    let c = references_of(s, unmark);
-    let pocs = c.pocs;
-    let old = c.marks;
-    let names = c.names;
-    let n = c.len;
-    let e = w.items;
-    let neg = w.neg;
-    let pos = w.pos;
-    let lt = w.lt;
-    let from = neg + pos;
-    let mut curr = [0u32; Store::CAPACITY];
-    let mut foll = [0u32; Store::CAPACITY];
-    let mut a = [0u32; Store::CAPACITY];
-    let mut b = [0u32; Store::CAPACITY];
-    let x = find_long(&pocs, &old, &names, n, k, true, e, from, lt, &mut curr);
-    let y = find_long(&pocs, &old, &names, n, k, false, e, from, lt, &mut foll);
-    let now = mark_where(&old, &names, n, &curr, x, &foll, y, true, Mark::LongTerm);
-    let i = find_run(&pocs, &now, &names, n, true, e, neg, pos, &curr, x, &mut a);
-    let j = find_run(&pocs, &now, &names, n, false, e, neg, pos, &foll, y, &mut b);
-    let kept = mark_where(&now, &names, n, &a, i.all, &b, j.all, false, Mark::Unmarked);
-    let store = with_marks(s, &kept);
-    let refs = refs_of(&a, i);
-    let rest = rest_of(&b, j);
-    let sets = Sets { refs, rest };
-    Derived { store, sets }
 }

@@ -1,6 +1,6 @@
 // "All numbers little-endian": numbers read from and written to lent bytes.
 ghost use mathlib.Core.Path.{_≡_};
-ghost use Prim.Native.Nat.{_+_, _≤_, _<_};
+ghost use Prim.Native.Nat.{_+_, _*_, _≤_, _<_};
 ghost use lib.ListN.{length};
 ghost use lib.Seq.{sets};
 ghost use mathlib.Core.List.{[], _∷_};
@@ -15,24 +15,40 @@ pub fn byte(s: &[u8], at: usize) -> u8
     if at < s.len() { s[at] } else { 0 }
 }
 
-// The u16 at a place.
+// A number of 16 bits from two bytes, the lowest first.
+fn half(lo: u8, hi: u8) -> u16
+    ensures { λ r. ⌜ r ≡ lo + 256 * hi ⌝ }
+{
+    (lo as u16) + 256 * (hi as u16)
+}
+
+// A number of 32 bits from two halves, the lower first.
+fn whole(lo: u16, hi: u16) -> u32
+    ensures { λ r. ⌜ r ≡ lo + 65536 * hi ⌝ }
+{
+    (lo as u32) + 65536 * (hi as u32)
+}
+
+// The u16 at a place. One test is enough where both bytes are there.
 pub fn u16_at(s: &[u8], at: usize) -> u16
     requires { ⌜ at < 1000002 ⌝ }
     ensures { λ r. ⌜ r ≡ u16 (now (s .entry)) at ⌝ }
 {
-    let lo = byte(s, at);
-    let hi = byte(s, at + 1);
-    (lo as u16) + 256 * (hi as u16)
+    if at + 2 <= s.len() {
+        return half(s[at], s[at + 1]);
+    }
+    half(byte(s, at), byte(s, at + 1))
 }
 
-// The u32 at a place.
+// The u32 at a place. One test is enough where all four bytes are there.
 pub fn u32_at(s: &[u8], at: usize) -> u32
     requires { ⌜ at < 1000000 ⌝ }
     ensures { λ r. ⌜ r ≡ u32 (now (s .entry)) at ⌝ }
 {
-    let lo = u16_at(s, at);
-    let hi = u16_at(s, at + 2);
-    (lo as u32) + 65536 * (hi as u32)
+    if at + 4 <= s.len() {
+        return whole(half(s[at], s[at + 1]), half(s[at + 2], s[at + 2 + 1]));
+    }
+    whole(u16_at(s, at), u16_at(s, at + 2))
 }
 
 // The number whose two's complement these 32 bits are.

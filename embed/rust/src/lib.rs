@@ -9,17 +9,22 @@
 //! ```
 #![no_std]
 
-/// How many words a session takes.
-pub const WORDS: usize = 137;
+/// How many words a session takes beside its sets and its store, of its sets and of its store, and in all.
+pub const HEAD: usize = 23;
+pub const SETS: usize = 16;
+pub const STORE: usize = 97;
+pub const WORDS: usize = HEAD + SETS + STORE;
 
 /// The least reply buffer, in bytes.
 pub const REPLY: usize = 512;
 
 extern "C" {
     fn trusshemp_session_size() -> usize;
-    fn trusshemp_fresh(session: *mut [u32; WORDS]);
-    fn trusshemp_step(
-        session: *mut [u32; WORDS],
+    fn trusshemp_fresh_in(head: *mut [u32; HEAD], sets: *mut [u32; SETS], store: *mut [u32; STORE]);
+    fn trusshemp_step_in(
+        head: *mut [u32; HEAD],
+        sets: *mut [u32; SETS],
+        store: *mut [u32; STORE],
         record: *const u8,
         record_length: usize,
         reply: *mut u8,
@@ -38,34 +43,53 @@ pub struct Answer {
 /// One session. A clone goes on by itself.
 #[derive(Clone, Debug, PartialEq, Eq)]
 pub struct Session {
-    words: [u32; WORDS],
+    head: [u32; HEAD],
+    sets: [u32; SETS],
+    store: [u32; STORE],
 }
 
 impl Session {
     /// A session that has heard nothing.
     pub fn new() -> Self {
-        let mut words = [0; WORDS];
-        // SAFETY: `words` is as long as the archive asks, and is lent to this call alone.
-        unsafe { trusshemp_fresh(&mut words) };
-        Session { words }
+        let mut session = Session::from_words([0; WORDS]);
+        // SAFETY: each part is as long as the archive asks, and is lent to this call alone.
+        unsafe { trusshemp_fresh_in(&mut session.head, &mut session.sets, &mut session.store) };
+        session
     }
 
     /// The session that stands in these words. Any words are some session.
     pub fn from_words(words: [u32; WORDS]) -> Self {
-        Session { words }
+        let mut session = Session { head: [0; HEAD], sets: [0; SETS], store: [0; STORE] };
+        session.head.copy_from_slice(&words[..HEAD]);
+        session.sets.copy_from_slice(&words[HEAD..HEAD + SETS]);
+        session.store.copy_from_slice(&words[HEAD + SETS..]);
+        session
     }
 
     /// The session as words, to be kept and read again.
-    pub fn words(&self) -> &[u32; WORDS] {
-        &self.words
+    pub fn words(&self) -> [u32; WORDS] {
+        let mut words = [0; WORDS];
+        words[..HEAD].copy_from_slice(&self.head);
+        words[HEAD..HEAD + SETS].copy_from_slice(&self.sets);
+        words[HEAD + SETS..].copy_from_slice(&self.store);
+        words
     }
 
     /// One call. A refused record leaves the session as it was, and the buffer behind the reply is left as it was.
     pub fn step(&mut self, record: &[u8], reply: &mut [u8]) -> Answer {
         let mut len = 0;
-        // SAFETY: each pointer comes from a reference, with the length of what it refers to; the references do not overlap, for three of them are `&mut`.
+        // SAFETY: each pointer comes from a reference, with the length of what it refers to; the references do not overlap, for all but the record's are `&mut`.
         let number = unsafe {
-            trusshemp_step(&mut self.words, record.as_ptr(), record.len(), reply.as_mut_ptr(), reply.len(), &mut len)
+            trusshemp_step_in(
+                &mut self.head,
+                &mut self.sets,
+                &mut self.store,
+                record.as_ptr(),
+                record.len(),
+                reply.as_mut_ptr(),
+                reply.len(),
+                &mut len,
+            )
         };
         Answer { number, len }
     }

@@ -58,7 +58,7 @@ fn every_recording() {
             assert!(reply[answer.len..].iter().all(|&b| b == FILL));
             assert!(answer.number == 0 || session == before);
             // kept as words and read again, it is the same session
-            session = Session::from_words(*session.words());
+            session = Session::from_words(session.words());
         }
         files += 1;
     }
@@ -75,7 +75,7 @@ fn a_small_buffer() {
     assert_eq!(session.step(&[], &mut []), Answer { number: 14, len: 0 });
 }
 
-/// Words that no call ever left get answers, and the next session is laid out whole.
+/// Words that no call ever left get answers, and a refusal leaves every one of them.
 #[test]
 fn any_words_are_a_session() {
     let mut seed = 1u64;
@@ -96,7 +96,7 @@ fn any_words_are_a_session() {
             let answer = session.step(&record, &mut reply);
             assert!(answer.number < 14 && (6..=REPLY).contains(&answer.len));
             assert_eq!(answer.number, u16::from_le_bytes([reply[4], reply[5]]));
-            assert!(answer.number == 0 || session.words() == &words);
+            assert!(answer.number == 0 || session.words() == words);
             assert!(reply[answer.len..].iter().all(|&b| b == FILL));
         }
     }

@@ -4,6 +4,7 @@ use mathlib.Core.Path.{_≡_, refl, sym, _∙_}
 use native.Mathlib.Omega.{arith}
 use borrow.Author.Needs.{needs}
 use lib.ListN.{length}
+use Rattle.session.specs.View.{memory}
 use Rattle.replay.specs.Answers.{Answers}
 use Rattle.replay.proofs.Answering.{nothing-yet, one-answered}
 use Rattle.framing.proofs.Fitting.{size-at, size-end}
@@ -11,10 +12,11 @@ use Rattle.replay.proofs.answer.Statement.{statement}
 use Rattle.replay.proofs.answer.Tie as tie
 
 abbrev Inv-loop : tie.InvT-loop
-Inv-loop bytes replies₀ next₀ taken₀ made₀ replies next taken made = (taken ≤ length bytes) × (made ≤ length replies) × (length replies ≡ length replies₀) × Answers next₀ bytes next taken made replies
+Inv-loop head₀ sets₀ places₀ bytes replies₀ taken₀ made₀ head sets places replies taken made =
+    (taken ≤ length bytes) × (made ≤ length replies) × (length replies ≡ length replies₀) × Answers (memory head₀ sets₀ places₀) bytes (memory head sets places) taken made replies
 
 abbrev μ-loop : tie.MeasureT-loop
-μ-loop bytes replies₀ next₀ taken₀ made₀ replies next taken made = length bytes - taken
+μ-loop head₀ sets₀ places₀ bytes replies₀ taken₀ made₀ head sets places replies taken made = length bytes - taken
 
 loop-holds : tie.Need-loop-holds Inv-loop μ-loop
 loop-holds c = (omega arith, omega arith, refl, nothing-yet _ _ _)
@@ -56,37 +58,36 @@ part-reply-to-start c = search needs
 
 part-reply-to-end : tie.Need-part-reply-to-end Inv-loop μ-loop
 part-reply-to-end c =
-    let l = c .before .before .before .before .loop in
-    size-end (c .before .before .before .before .before .before .before .args .bytes .now) (l .taken) (c .before .size .ensures) (l .inv .0)
+    let l = c .before .before .before .before .before .before .before .loop in
+    size-end (c .before .before .before .before .before .before .before .before .before .before .args .bytes .now) (l .taken) (c .before .before .before .before .size .ensures) (l .inv .0)
 
 reply-to-requires : tie.Need-reply-to-requires Inv-loop μ-loop
 reply-to-requires c κs = search needs
 
 add-made : tie.Need-add-made Inv-loop μ-loop
 add-made c =
-    let l = c .before .before .before .before .before .before .before .before .before .before .before .loop in
-    let a = c .before .before .before .before .reply-to in
+    let l = c .before .before .before .before .before .before .before .before .before .before .before .before .before .loop in
+    let a = c .before .before .before .reply-to in
     let k : l .made + a .result .len ≤ length (l .replies) = a .ensures .fits in
-    let st = c .before .before .before .before .before .before .before .before .before .before .before .before .before .before in
-    let g = st .good .1 .1 .0 in
+    let g = c .before .before .before .before .before .before .before .before .before .before .before .before .before .before .before .before .good .1 .1 .1 .1 .0 in
     omega (arith, k, l .inv .2, g)
 
 loop-less : tie.Need-loop-less Inv-loop μ-loop
 loop-less c =
-    let l = c .before .before .before .before .before .before .before .before .before .before .before .loop in
-    let n = c .before .before .before .before .before .before .before .before .size in
-    let k = size-end (c .before .before .before .before .before .before .before .before .before .before .before .before .before .before .args .bytes .now) (l .taken) (n .ensures) (l .inv .0) in
-    let h = c .before .before .before .before .before .before .before .if1 .left in
+    let l = c .before .before .before .before .before .before .before .before .before .before .before .before .before .loop in
+    let n = c .before .before .before .before .before .before .before .before .before .before .size in
+    let k = size-end (c .before .before .before .before .before .before .before .before .before .before .before .before .before .before .before .before .args .bytes .now) (l .taken) (n .ensures) (l .inv .0) in
+    let h = c .before .before .before .before .before .before .before .before .before .if1 .left in
     omega (arith, k, h)
 
 loop-again : tie.Need-loop-again Inv-loop μ-loop
 loop-again c =
-    let l = c .before .before .before .before .before .before .before .before .before .before .before .loop in
-    let n = c .before .before .before .before .before .before .before .before .size in
-    let k = size-end (c .before .before .before .before .before .before .before .before .before .before .before .before .before .before .args .bytes .now) (l .taken) (n .ensures) (l .inv .0) in
-    let h = c .before .before .before .before .before .before .before .if1 .left in
-    let a = c .before .before .before .before .reply-to in
-    let s = a .kept .1 .1 .0 in
+    let l = c .before .before .before .before .before .before .before .before .before .before .before .before .before .loop in
+    let n = c .before .before .before .before .before .before .before .before .before .before .size in
+    let k = size-end (c .before .before .before .before .before .before .before .before .before .before .before .before .before .before .before .before .args .bytes .now) (l .taken) (n .ensures) (l .inv .0) in
+    let h = c .before .before .before .before .before .before .before .before .before .if1 .left in
+    let a = c .before .before .before .reply-to in
+    let s = a .kept .1 .1 .1 .1 .0 in
     let f = a .ensures .fits in
     (k, omega (arith, f, s), s ∙ l .inv .2, one-answered (l .taken) (l .made) (n .result) _ (omega (arith, h)) (size-at _ (l .taken) (n .ensures)) (l .inv .3) (a .ensures))
 

@@ -1,7 +1,7 @@
 -- A read puts bytes behind those that wait.
 use native.Mathlib.Omega.{arith}
-use borrow.Author.Needs.{needs}
 use Rattle.framing.proofs.Keeping.{front}
+use borrow.Author.Needs.{needs}
 use Rattle.replay.proofs.read_on.Statement.{statement}
 use Rattle.replay.proofs.read_on.Tie as tie
 use Rattle.replay.proofs.read_on.Reads as reads
@@ -24,8 +24,8 @@ read-requires c κs = search needs
 count-requires : tie.Need-count-requires
 count-requires c κs = search needs
 
-add-t8 : tie.Need-add-t8
-add-t8 c = search needs
+add-t7 : tie.Need-add-t7
+add-t7 c = search needs
 
 same-length : tie.Need-same-length
 same-length c = search needs
@@ -34,7 +34,7 @@ returns : tie.Need-returns
 returns c =
     let st = c .before .before .before .before .before .before .before .before .before .before in
     let p = st .pre in
-    (search needs, (front (st .args .held) (st .args .input .now) _ (omega (arith, p)), search needs, search needs))
+    (search needs, (front (st .args .held) (st .args .input .now) _ (omega (arith, p)), search needs))
 
 pub read-on-spec : {M : Type 1} → statement M
 read-on-spec =
@@ -45,6 +45,6 @@ read-on-spec =
     part-rest-end
     read-requires
     count-requires
-    add-t8
+    add-t7
     same-length
     returns)

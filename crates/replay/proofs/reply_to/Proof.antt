@@ -1,8 +1,11 @@
 -- The reply goes into the part of the buffer that is free.
-use borrow.Author.Needs.{needs}
 use Rattle.replay.proofs.Answering.{added}
+use borrow.Author.Needs.{needs}
 use Rattle.replay.proofs.reply_to.Statement.{statement}
 use Rattle.replay.proofs.reply_to.Tie as tie
+use Rattle.replay.proofs.reply_to.Reads as reads
+use Rattle.replay.proofs.reply_to.Lts as lts
+use Rattle.session.proofs.step.Reads as step-reads
 
 sub-step : tie.Need-sub-step
 sub-step c = search needs
@@ -21,9 +24,9 @@ same-length c = search needs
 
 returns : tie.Need-returns
 returns c =
-    let a = c .before .before .before .before .before .before .args in
+    let s = c .before .before .before .before .before .before .before .before .before in
     let st = c .before .before .step in
-    added (a .made) (a .replies .now) _ (c .before .before .before .before .before .before .pre) (st .kept .1 .1 .0) (st .ensures)
+    added (s .args .made) (s .args .replies .now) _ (s .pre) (st .kept .1 .1 .1 .1 .0) (st .ensures)
 
 pub reply-to-spec : {M : Type 1} → statement M
 reply-to-spec =

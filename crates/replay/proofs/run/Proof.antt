@@ -5,12 +5,16 @@ use borrow.Author.Needs.{needs}
 use lib.ListN.{length}
 use Rattle.replay.proofs.run.Statement.{statement}
 use Rattle.replay.proofs.run.Tie as tie
+use Rattle.replay.proofs.run.Reads as reads
+use Rattle.replay.proofs.run.Lts as lts
+use Rattle.replay.proofs.turn.Reads as turn-reads
+use Rattle.session.proofs.fresh.Reads as fresh-reads
 
 abbrev Inv-loop : tie.InvT-loop
-Inv-loop input₀ output₀ s₀ held₀ left₀ input output s held left = (held ≤ length input) × (length input ≡ length input₀) × (length output ≡ length output₀)
+Inv-loop input₀ output₀ head₀ sets₀ places₀ held₀ left₀ input output head sets places held left = (held ≤ length input) × (length input ≡ length input₀) × (length output ≡ length output₀)
 
 abbrev μ-loop : tie.MeasureT-loop
-μ-loop input₀ output₀ s₀ held₀ left₀ input output s held left = left
+μ-loop input₀ output₀ head₀ sets₀ places₀ held₀ left₀ input output head sets places held left = left
 
 fresh-requires : tie.Need-fresh-requires Inv-loop μ-loop
 fresh-requires c κs = search needs

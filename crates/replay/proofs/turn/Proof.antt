@@ -2,32 +2,40 @@
 -- so what waits is shorter than the input buffer.
 use mathlib.Core.Path.{_≡_, sym}
 use native.Mathlib.Omega.{arith}
-use borrow.Author.Needs.{needs}
 use lib.ListN.{length}
 use lib.Seq.{length-take-le}
-use Rattle.replay.proofs.Answering.{room-left}
+use Rattle.replay.proofs.Answering.{room-left, none-changed}
 use Rattle.framing.proofs.Fitting.{within}
 use Rattle.replay.proofs.Turning.{waited, answered}
+use borrow.Author.Needs.{needs}
 use Rattle.replay.proofs.turn.Statement.{statement}
 use Rattle.replay.proofs.turn.Tie as tie
+use Rattle.replay.proofs.turn.Reads as reads
+use Rattle.replay.proofs.turn.Lts as lts
+use Rattle.framing.proofs.shift.Reads as shift-reads
+use Rattle.io.proofs.write_all.Reads as write-all-reads
+use Rattle.replay.proofs.answer.Reads as answer-reads
+use Rattle.replay.proofs.read_on.Reads as read-on-reads
 
 slice-reshare-prefix-answer : tie.Need-slice-reshare-prefix-answer
 slice-reshare-prefix-answer c = search needs
 
 slice-aggregate-answer : tie.Need-slice-aggregate-answer
-slice-aggregate-answer c = let s = c .before .before .before in sym (length-take-le (s .args .held) (s .args .input .now) (s .pre .0))
+slice-aggregate-answer c =
+    let s = c .before .before .before .before .before .before in
+    sym (length-take-le (s .args .held) (s .args .input .now) (s .pre .0))
 
 answer-requires : tie.Need-answer-requires
 answer-requires c κs = search needs
 
 read-on-requires : tie.Need-read-on-requires
 read-on-requires c κs =
-    let st = c .before .before .before .before .before .before .before .before .before in
+    let st = c .before .before .before .before .before .before .before .before .before .before .before .before in
     let a = c .before .before .before .before .answer in
-    let e : length (a .last .1 .1 .0) ≡ length (st .args .output .now) = a .kept .1 .1 .0 in
+    let e : length (a .last .1 .1 .1 .1 .0) ≡ length (st .args .output .now) = a .kept .1 .1 .1 .1 .0 in
     let p = st .pre in
-    room-left (st .args .held) (a .result .taken) (a .result .made) (st .args .input .now) (a .last .1 .1 .0) (c .before .if1 .taken) (a .ensures .1 .0) (a .ensures .1 .1)
-    (a .ensures .0 .1) (omega (arith, e, p)) (λ k. c .before .before .before .before .before .before .before .before .slice-known .given k .fits) (p .1 .0) (p .0)
+    room-left (st .args .held) (a .result .taken) (a .result .made) (st .args .input .now) (a .last .1 .1 .1 .1 .0) (c .before .if1 .taken) (a .ensures .1 .0) (a .ensures .1 .1)
+    (a .ensures .0 .1) (omega (arith, e, p)) (λ k. c .before .before .before .before .before .before .before .before .before .before .before .slice-known .given k .fits) (p .1 .0) (p .0)
 
 same-length : tie.Need-same-length
 same-length c = search needs
@@ -37,29 +45,32 @@ same-length-2 c = search needs
 
 returns : tie.Need-returns
 returns c =
-    let st = c .before .before .before .before .before .before .before .before .before .before .before .before in
+    let st = c .before .before .before .before .before .before .before .before .before .before .before .before .before .before .before in
+    let a = c .before .before .before .before .before .before .before .answer in
     let k = c .before .before .read-on .ensures .1 in
-    (search needs, waited (st .args .held) (st .args .input .now) (k .0) (k .1) (k .2))
+    (search needs, waited (st .args .held) (st .args .input .now) (k .0) (k .1) (none-changed (c .before .before .before .before .if1 .taken) (a .ensures .1 .0)))
 
 slice-reshare-prefix-write-all : tie.Need-slice-reshare-prefix-write-all
 slice-reshare-prefix-write-all c = search needs
 
 slice-aggregate-write-all : tie.Need-slice-aggregate-write-all
-slice-aggregate-write-all c = let a = c .before .before .before .before .answer in sym (length-take-le (a .result .made) (a .last .1 .1 .0) (a .ensures .0 .1))
+slice-aggregate-write-all c =
+    let a = c .before .before .before .before .answer in
+    sym (length-take-le (a .result .made) (a .last .1 .1 .1 .1 .0) (a .ensures .0 .1))
 
 write-all-requires : tie.Need-write-all-requires
 write-all-requires c κs = search needs
 
 shift-requires : tie.Need-shift-requires
 shift-requires c κs =
-    let s = c .before .before .before .before .before .before .before .before .before .before .before in
+    let s = c .before .before .before .before .before .before .before .before .before .before .before .before .before .before in
     let h = within (s .args .held) (s .args .input .now) (s .pre .0) (c .before .before .before .before .before .before .answer .ensures .0 .0) in
     (h, s .pre .0)
 
-sub-t22 : tie.Need-sub-t22
-sub-t22 c =
-    let s = c .before .before .before .before .before .before .before .before .before .before .before .before .before .before .before in
-    within (s .args .held) (s .args .input .now) (s .pre .0) (c .before .before .before .before .before .before .before .before .before .before .answer .ensures .0 .0)
+sub-t26 : tie.Need-sub-t26
+sub-t26 c =
+    let s = c .before .before .before .before .before .before .before .before .before .before .before .before .before .before .before .before .before in
+    within (s .args .held) (s .args .input .now) (s .pre .0) (c .before .before .before .before .before .before .before .before .before .answer .ensures .0 .0)
 
 same-length-3 : tie.Need-same-length-3
 same-length-3 c = search needs
@@ -69,10 +80,10 @@ same-length-4 c = search needs
 
 returns-2 : tie.Need-returns-2
 returns-2 c =
-    let st = c .before .before .before .before .before .before .before .before .before .before .before .before .before .before .before in
-    let a = c .before .before .before .before .before .before .before .before .before .before .answer in
+    let st = c .before .before .before .before .before .before .before .before .before .before .before .before .before .before .before .before .before in
+    let a = c .before .before .before .before .before .before .before .before .before .answer in
     let w = within (st .args .held) (st .args .input .now) (st .pre .0) (a .ensures .0 .0) in
-    (search needs, answered (st .args .held) (st .args .input .now) (st .pre .0) w (a .ensures .1 .0) (c .before .before .before .shift .ensures))
+    (search needs, answered (st .args .held) (st .args .input .now) (st .pre .0) w (a .ensures .1 .0) (c .before .before .shift .ensures))
 
 pub turn-spec : {M : Type 1} → statement M
 turn-spec =
@@ -89,7 +100,7 @@ turn-spec =
     slice-aggregate-write-all
     write-all-requires
     shift-requires
-    sub-t22
+    sub-t26
     same-length-3
     same-length-4
     returns-2)

@@ -1,17 +1,19 @@
--- An empty store and empty sets are blank in every place.
-use Rattle.session.proofs.Saying.{packed-is}
+-- Every word but that of the start is 0, and an empty store holds nothing.
 use borrow.Author.Needs.{needs}
+use Rattle.derivation.specs.Lists.{refsIn}
+use Rattle.session.specs.View.{frontIn}
 use Rattle.session.proofs.fresh.Statement.{statement}
 use Rattle.session.proofs.fresh.Tie as tie
 
 empty-requires : tie.Need-empty-requires
 empty-requires c κs = search needs
 
-none-requires : tie.Need-none-requires
-none-requires c κs = search needs
+element-write-head : tie.Need-element-write-head
+element-write-head c = search needs
 
 returns : tie.Need-returns
-returns c = rw (packed-is (c .before .empty .ensures), c .none .ensures .0)
+unfolding frontIn refsIn
+returns c = rw (c .before .before .before .empty .ensures)
 
 pub fresh-spec : {M : Type 1} → statement M
-fresh-spec = tie.close (tie.spec empty-requires none-requires returns)
+fresh-spec = tie.close (tie.spec empty-requires element-write-head returns)

@@ -1,47 +1,48 @@
--- `derivation::rows::candidate`: list 1 is list 0 with its first two parts changed over.
-use mathlib.Core.Path.{_∙_}
-use Rattle.derivation.specs.Lists.{refsIn}
-use Rattle.derivation.proofs.Runs.{other-get}
+-- `derivation::rows::candidate`: within the run its element, and behind it the current picture.
+use denote.Ref.{now}
+use native.Mathlib.Omega.{arith}
+use Rattle.derivation.proofs.Runs.{stands-inside, stands-past}
 use borrow.Author.Needs.{needs}
 use Rattle.derivation.proofs.rows.candidate.Statement.{statement}
 use Rattle.derivation.proofs.rows.candidate.Tie as tie
 
-before-count-requires : tie.Need-before-count-requires
-before-count-requires c κs = search needs
+count-run-requires : tie.Need-count-run-requires
+count-run-requires c κs = search needs
 
-after-count-requires : tie.Need-after-count-requires
-after-count-requires c κs = search needs
+stands-requires : tie.Need-stands-requires
+stands-requires c κs = search needs
 
-swapped-requires : tie.Need-swapped-requires
-swapped-requires c κs = search needs
-
-member-requires : tie.Need-member-requires
-member-requires c κs = search needs
+member-count-requires : tie.Need-member-count-requires
+member-count-requires c κs = search needs
 
 returns : tie.Need-returns
 returns c own =
-    let w = c .before in
-    let a = w .before in
-    let b = a .before in
-    let g = b .before .before .args in
-    rw (b .before .if1 .taken)
-    (c .member .ensures own
-    ∙ other-get (refsIn (g .refs)) own (g .c) (b .before-count .result) (a .after-count .result) (g .i) (w .swapped .result) (b .before-count .ensures .0) (a .after-count .ensures .0) (w .swapped .ensures))
+    let a = c .before .before in
+    let k = a .before in
+    let g = k .before .before .args in
+    stands-past (now (g .run)) (g .refs) own (g .second) (g .c) (g .i) (a .stands .result) (k .count-run .ensures .1) (a .stands .ensures) (omega arith)
 
-member-requires-2 : tie.Need-member-requires-2
-member-requires-2 c κs = search needs
+mul-t7 : tie.Need-mul-t7
+mul-t7 c = search needs
+
+element-copy-out-t12 : tie.Need-element-copy-out-t12
+element-copy-out-t12 c = search needs
 
 returns-2 : tie.Need-returns-2
-returns-2 c own = rw (c .before .if1 .left) (c .member2 .ensures own)
+returns-2 c own =
+    let a = c .before .before .before in
+    let k = a .before in
+    let g = k .before .before .args in
+    stands-inside (now (g .run)) (g .refs) own (g .second) (g .c) (g .i) (a .stands .result) (k .count-run .ensures .1) (a .stands .ensures) (omega arith)
 
 pub candidate-spec : {M : Type 1} → statement M
 candidate-spec =
     tie.close
     (tie.spec
-    before-count-requires
-    after-count-requires
-    swapped-requires
-    member-requires
+    count-run-requires
+    stands-requires
+    member-count-requires
     returns
-    member-requires-2
+    mul-t7
+    element-copy-out-t12
     returns-2)

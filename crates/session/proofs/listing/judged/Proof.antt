@@ -10,7 +10,7 @@ use Rattle.session.proofs.listing.judged.Statement.{statement}
 use Rattle.session.proofs.listing.judged.Tie as tie
 
 seen : (c : tie.After-struct-known)
-    → Judging (refsIn (c .before .before .before .before .before .before .before .before .before .args .refs)) (sliceOf (now (c .before .before .before .before .before .before .before .before .before .args .msg))) (c .before .before .before .before .before .ask0 .result) (c .before .before .before .before .ask1 .result) (c .before .candidate-count .result)
+    → Judging (refsIn (now (c .before .before .before .before .before .before .before .before .before .args .run)) (c .before .before .before .before .before .before .before .before .before .args .refs)) (sliceOf (now (c .before .before .before .before .before .before .before .before .before .args .msg))) (c .before .before .before .before .before .ask0 .result) (c .before .before .before .before .ask1 .result) (c .before .candidate-count .result)
 seen c =
     let o = own-is (now (c .before .before .before .before .before .before .before .before .before .args .msg)) (c .before .before .bit2 .ensures) (c .before .before .before .byte .ensures) in
     record {
@@ -26,7 +26,7 @@ lists-ranges-requires c κs = search needs
 returns : tie.Need-returns
 returns c =
     let a = c .before .before .before .args in
-    fails-5 (refsIn (a .refs)) (sliceOf (now (a .msg))) (sym (c .before .lists-ranges .ensures) ∙ not-true (c .before .lists-ranges .result) (c .if1 .taken))
+    fails-5 (refsIn (now (a .run)) (a .refs)) (sliceOf (now (a .msg))) (sym (c .before .lists-ranges .ensures) ∙ not-true (c .before .lists-ranges .result) (c .if1 .taken))
 
 ask0-requires : tie.Need-ask0-requires
 ask0-requires c κs = search needs

@@ -1,13 +1,14 @@
 -- Each kind has its arm, and every other number none.
-use mathlib.Core.Bool.{Bool, true, false, cond, _&&_}
+use mathlib.Core.Bool.{Bool, false, _&&_}
 use mathlib.Core.List.{List}
 use mathlib.Core.Path.{_≡_, sym, ap, _∙_}
-use Prim.Native.Nat.{ℕ, _+_, _*_, _≤_, _<_, zero-le}
+use Prim.Native.Nat.{ℕ, _+_, _*_, _≤_, _<_}
 use native.Mathlib.Omega.{arith}
 use borrow.Author.Needs.{needs}
 use borrow.Author.Tests.{le-leb, lt-leb, ne-eqb}
 use lib.Dec.{eqb, leb}
 use denote.Ref.{now}
+use Rattle.session.proofs.Entries.{at-most}
 use Rattle.paper.specs.Numbers.{u8, bit}
 use Rattle.paper.specs.Records.{kindOf, lengthOf, entries0, entries1, bodyOk}
 use Rattle.session.proofs.reading.body_ok.Statement.{statement}
@@ -37,11 +38,6 @@ module _ (r : List ℕ) {k n : ℕ} (ek : k ≡ kindOf r) (en : n ≡ lengthOf r
   below : k ≡ 0 → false ≡ bodyOk r
   below e = rw (sym ek ∙ e)
 
--- a count of entries is a byte or 0
-small : (b : Bool) (n : ℕ) → cond b n 0 ≤ n
-small true n = omega arith
-small false n = zero-le
-
 begin-length-requires : tie.Need-begin-length-requires
 begin-length-requires c κs = search needs
 
@@ -52,7 +48,7 @@ add-result : tie.Need-add-result
 add-result c =
     let s = c .before .before in
     let r = now (s .before .args .msg) in
-    omega (arith, c .count0 .ensures, small (bit 0 (u8 r 5)) (u8 r 6), s .shared-slice-known .given 6)
+    omega (arith, c .count0 .ensures, at-most (bit 0 (u8 r 5)) (u8 r 6), s .shared-slice-known .given 6)
 
 count1-requires : tie.Need-count1-requires
 count1-requires c κs = search needs
@@ -61,7 +57,7 @@ add-result-2 : tie.Need-add-result-2
 add-result-2 c =
     let s = c .before .before .before in
     let r = now (s .before .args .msg) in
-    omega (arith, c .before .count0 .ensures, c .count1 .ensures, small (bit 0 (u8 r 5)) (u8 r 6), small (bit 1 (u8 r 5)) (u8 r 7), s .shared-slice-known .given 6, s .shared-slice-known .given 7)
+    omega (arith, c .before .count0 .ensures, c .count1 .ensures, at-most (bit 0 (u8 r 5)) (u8 r 6), at-most (bit 1 (u8 r 5)) (u8 r 7), s .shared-slice-known .given 6, s .shared-slice-known .given 7)
 
 returns : tie.Need-returns
 returns c = let s = c .before .before in kind1 (now (s .args .msg)) (s .pre .0) (s .pre .1) (c .match .keys1)

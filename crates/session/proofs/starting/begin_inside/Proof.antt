@@ -1,13 +1,49 @@
 -- A POC outside i32 gives 6; else the steps behind it.
-use Rattle.session.proofs.Begins.{outside, no-poc, placed}
+use mathlib.Core.Path.{_∙_, ap}
+use Rattle.paper.specs.State.{Session, modulus}
+use Rattle.derivation.specs.Answers.{pocAnswer}
+use Rattle.session.proofs.Begins.{outside, Counted, no-poc, placed}
+use Rattle.session.proofs.Saying.{does-refuse}
+use Rattle.session.specs.Starts.{flagsFrom, prevFrom}
+use Rattle.session.specs.View.{memory, sessionIn, frontIn}
 use denote.Ref.{now}
-use Rattle.session.proofs.Saying.{as-decided}
 use borrow.Author.Needs.{needs}
 use Rattle.session.proofs.starting.begin_inside.Statement.{statement}
 use Rattle.session.proofs.starting.begin_inside.Tie as tie
 
+abbrev session : tie.Start → Session
+session c = sessionIn (memory (now (c .args .head)) (now (c .args .run)) (now (c .args .places)))
+
+-- what the callees of steps 1 and 2 answered
+counted : (c : tie.After-derive-poc) → Counted (session (c .before .before .before .before .before .before .before .before .before .before .before .before .before .before)) (now (c .before .before .before .before .before .before .before .before .before .before .before .before .before .before .args .msg)) (c .before .before .before .before .before .before .before .before .before .before .before .head-of .result) (c .before .before .flags-of .result) (c .derive-poc .result)
+unfolding frontIn
+counted c =
+    record {
+      head = c .before .before .before .before .before .before .before .before .before .before .before .head-of .ensures;
+      flags = c .before .before .flags-of .ensures ∙ (λ i. flagsFrom (c .before .before .before .before .before .flag-of .ensures i) (c .before .before .before .flag-of2 .ensures i) (c .before .before .before .before .before .before .before .before .before .before .before .head-of .result));
+      poc = c .derive-poc .ensures ∙ (λ i. pocAnswer (modulus (c .before .before .before .before .before .before .before .before .before .limits-in .ensures i)) ((c .before .prev-for .ensures ∙ ap (prevFrom (c .before .before .flags-of .result .over)) (c .before .before .before .before .before .before .before .prev-in .ensures)) i) (c .before .before .before .before .before .before .before .before .before .before .before .head-of .result .lsb));
+    }
+
 head-of-requires : tie.Need-head-of-requires
 head-of-requires c κs = search needs
+
+limits-in-requires : tie.Need-limits-in-requires
+limits-in-requires c κs = search needs
+
+prev-in-requires : tie.Need-prev-in-requires
+prev-in-requires c κs = search needs
+
+element-copy-out-flag-of : tie.Need-element-copy-out-flag-of
+element-copy-out-flag-of c = search needs
+
+flag-of-requires : tie.Need-flag-of-requires
+flag-of-requires c κs = search needs
+
+element-copy-out-flag-of-2 : tie.Need-element-copy-out-flag-of-2
+element-copy-out-flag-of-2 c = search needs
+
+flag-of-requires-2 : tie.Need-flag-of-requires-2
+flag-of-requires-2 c κs = search needs
 
 flags-of-requires : tie.Need-flags-of-requires
 flags-of-requires c κs = search needs
@@ -28,19 +64,13 @@ enum-known-msb : tie.Need-enum-known-msb
 enum-known-msb c = search needs
 
 begin-at-requires : tie.Need-begin-at-requires
-begin-at-requires c κs =
-    let s = c .before .before .before .before .before .before .before .before .before .before .before in
-    let a = s .args in
-    (placed (a .s) (now (a .msg)) (c .before .before .before .before .before .before .before .before .head-of .ensures) (c .before .before .before .before .before .before .flags-of .ensures) (c .before .before .before .before .before .prev-for .ensures) (c .before .before .before .before .derive-poc .ensures) _ _ (s .pre .0) (c .before .before .msb .given .1), search needs)
+begin-at-requires c κs = let s = c .before .before .before .before .before .before .before .before .before .before .before .before .before .before .before .before .before .before .before .before .before in (placed (counted (c .before .before .before .before .before .before .before)) _ _ (s .pre .0) (c .before .before .before .before .before .msb .given .1), s .pre .1)
 
 same-length : tie.Need-same-length
 same-length c = search needs
 
 returns : tie.Need-returns
-returns c =
-    let s = c .before .before .before .before .before .before .before .before .before .before .before .before .before in
-    let a = s .args in
-    as-decided (outside (a .s) (now (a .msg)) (s .pre .0) (no-poc (a .s) (now (a .msg)) (c .before .before .before .before .before .before .before .before .before .before .head-of .ensures) (c .before .before .before .before .before .before .before .before .flags-of .ensures) (c .before .before .before .before .before .before .before .prev-for .ensures) (c .before .before .before .before .before .before .derive-poc .ensures) (c .before .before .before .before .enum-told .given .1))) (c .before .before .refuse .ensures 2)
+returns c = let s = c .before .before .before .before .before .before .before .before .before .before .before .before .before .before .before .before .before .before .before .before in does-refuse (outside (session s) (now (s .args .msg)) (s .pre .0) (no-poc (counted (c .before .before .before .before .before .before)) (c .before .before .before .before .enum-told .given .1))) (c .before .before .refuse .ensures)
 
 same-length-2 : tie.Need-same-length-2
 same-length-2 c = search needs
@@ -53,6 +83,12 @@ begin-inside-spec =
     tie.close
     (tie.spec
     head-of-requires
+    limits-in-requires
+    prev-in-requires
+    element-copy-out-flag-of
+    flag-of-requires
+    element-copy-out-flag-of-2
+    flag-of-requires-2
     flags-of-requires
     prev-for-requires
     derive-poc-requires

@@ -1,23 +1,23 @@
--- What is told, the counts, the members and the tail from 6 on, and the head before them.
+-- What is told, the sizes, the members and the tail from 6 on, and the head before them.
 use borrow.Author.Needs.{needs}
+use Prim.Native.Nat.{_+_, _≤_}
+use mathlib.Core.List.{_++_}
 use mathlib.Core.Path.{_≡_, _∙_}
-use mathlib.Core.List.{[], _∷_, _++_}
-use Prim.Native.Nat.{_+_, _-_, _<_, _≤_}
 use native.Mathlib.Omega.{arith}
-use denote.Ref.{now}
 use lib.ListN.{length}
+use denote.Ref.{now}
 use Rattle.paper.specs.Replies.{tailBytes}
-use Rattle.store.specs.Store.{movedIn}
-use Rattle.session.specs.Written.{toldBytes, memberBytes, begunPart}
-use Rattle.session.proofs.Bytes.{run, run-on, length-told, members-end, begun-end, framed-last}
+use Rattle.session.specs.Written.{toldBytes, sizesBytes, memberBytes}
+use Rattle.store.specs.Tails.{tailIn}
+use Rattle.session.proofs.Bytes.{run, run-on, length-told, tail-room, members-room, framed-last}
 use Rattle.session.proofs.writing.put_begun.Statement.{statement}
 use Rattle.session.proofs.writing.put_begun.Tie as tie
 
 put-told-requires : tie.Need-put-told-requires
 put-told-requires c κs = search needs
 
-put-counts-requires : tie.Need-put-counts-requires
-put-counts-requires c κs = search needs
+put-sizes-requires : tie.Need-put-sizes-requires
+put-sizes-requires c κs = search needs
 
 put-members-requires : tie.Need-put-members-requires
 put-members-requires c κs = search needs
@@ -25,8 +25,8 @@ put-members-requires c κs = search needs
 put-tail-requires : tie.Need-put-tail-requires
 put-tail-requires c κs =
     let s = c .before .before .before .before .before .before .before .before .before .before .before .before .before .before in
-    let m : c .before .before .before .put-members .result ≤ 148 = members-end (s .args .x) (s .pre .0) (c .before .before .before .before .before .before .before .before .before .before .before .put-told .ensures .0) (c .before .before .before .before .before .before .before .put-counts .ensures .0) (c .before .before .before .put-members .ensures .0) in
-    let l : length (c .before .before .before .put-members .last .0) ≡ length (now (s .args .d)) = c .before .before .before .put-members .kept .0 ∙ c .before .before .before .before .before .before .before .put-counts .kept .0 ∙ c .before .before .before .before .before .before .before .before .before .before .before .put-told .kept .0 in
+    let m : c .before .before .before .put-members .result ≤ 84 = omega (arith, members-room (s .args .x) (now (s .args .us)) (now (s .args .vs)) (s .pre .0), c .before .before .before .before .before .before .before .before .before .before .before .put-told .ensures .0, c .before .before .before .before .before .before .before .put-sizes .ensures .0, c .before .before .before .put-members .ensures .0) in
+    let l : length (c .before .before .before .put-members .last .0) ≡ length (now (s .args .d)) = c .before .before .before .put-members .kept .0 ∙ c .before .before .before .before .before .before .before .put-sizes .kept .0 ∙ c .before .before .before .before .before .before .before .before .before .before .before .put-told .kept .0 in
     let e : c .before .before .before .put-members .result + 350 ≤ length (c .before .before .before .put-members .last .0) = omega (arith, s .pre .1 .1 .room) in
     (s .pre .1 .0, e)
 
@@ -36,9 +36,9 @@ sub-put-head c = search needs
 cast-put-head : tie.Need-cast-put-head
 cast-put-head c =
     let s = c .before .before .before .before .before .before .before .before .before .before .before .before .before .before .before .before .before .before in
-    let n : c .before .before .before .put-tail .result ≤ 479 = begun-end (s .args .x) (s .pre .0) (c .before .before .before .before .before .before .before .before .before .before .before .before .before .before .before .put-told .ensures .0) (c .before .before .before .before .before .before .before .before .before .before .before .put-counts .ensures .0) (c .before .before .before .before .before .before .before .put-members .ensures .0) (s .args .o) (s .pre .1 .0) (c .before .before .before .put-tail .ensures .0) in
-    let e : c .before .before .before .put-tail .result - 4 < 65536 = omega arith in
-    record { fits = e }
+    let m : c .before .before .before .before .before .before .before .put-members .result ≤ 84 = omega (arith, members-room (s .args .x) (now (s .args .us)) (now (s .args .vs)) (s .pre .0), c .before .before .before .before .before .before .before .before .before .before .before .before .before .before .before .put-told .ensures .0, c .before .before .before .before .before .before .before .before .before .before .before .put-sizes .ensures .0, c .before .before .before .before .before .before .before .put-members .ensures .0) in
+    let e : c .before .before .before .put-tail .result ≤ 415 = omega (arith, c .before .before .before .put-tail .ensures .0, tail-room (now (s .args .handed)) (now (s .args .thrown)) (now (s .args .released)) (s .args .c) (s .pre .1 .0)) in
+    omega arith
 
 put-head-requires : tie.Need-put-head-requires
 put-head-requires c κs = search needs
@@ -50,24 +50,24 @@ returns : tie.Need-returns
 returns c =
     let s = c .before .before .before .before .before .before .before .before .before .before .before .before .before .before .before .before .before .before .before .before .before in
     let a = s .args in
-    let x = a .x in
     let D = now (a .d) in
-    let T = tailBytes (movedIn (a .o) .tail) in
-    let C = x .refs .before ∷ x .refs .after ∷ x .rest .foll ∷ x .refs .long ∷ x .rest .«lt_foll» ∷ [] in
-    let e1 = run D 6 (toldBytes (a .t)) (length-told (a .t)) (c .before .before .before .before .before .before .before .before .before .before .before .before .before .before .before .before .before .before .put-told .ensures) in
-    let e2 = run-on D 6 (toldBytes (a .t)) C e1 (c .before .before .before .before .before .before .before .before .before .before .before .before .before .before .put-counts .ensures) in
-    let e3 = run-on D 6 (toldBytes (a .t) ++ C) (memberBytes x) e2 (c .before .before .before .before .before .before .before .before .before .before .put-members .ensures) in
-    let e4 = run-on D 6 (begunPart (a .t) x) T e3 (c .before .before .before .before .before .before .put-tail .ensures) in
-    let n : c .before .before .before .before .before .before .put-tail .result ≤ 479 = begun-end x (s .pre .0) (c .before .before .before .before .before .before .before .before .before .before .before .before .before .before .before .before .before .before .put-told .ensures .0) (c .before .before .before .before .before .before .before .before .before .before .before .before .before .before .put-counts .ensures .0) (c .before .before .before .before .before .before .before .before .before .before .put-members .ensures .0) (a .o) (s .pre .1 .0) (c .before .before .before .before .before .before .put-tail .ensures .0) in
-    let r : c .before .before .before .before .before .before .put-tail .result ≤ length D = omega (arith, s .pre .1 .1 .room) in
-    framed-last D (begunPart (a .t) x ++ T) 258 e4 r (c .before .before .put-head .ensures)
+    let P = toldBytes (a .t) in
+    let M = memberBytes (a .x) (now (a .us)) (now (a .vs)) in
+    let T = tailBytes (tailIn (now (a .handed)) (now (a .thrown)) (now (a .released)) (a .c)) in
+    let e1 = run D 6 P (length-told (a .t)) (c .before .before .before .before .before .before .before .before .before .before .before .before .before .before .before .before .before .before .put-told .ensures) in
+    let e2 = run-on D 6 P (sizesBytes (a .x)) e1 (c .before .before .before .before .before .before .before .before .before .before .before .before .before .before .put-sizes .ensures) in
+    let e3 = run-on D 6 (P ++ sizesBytes (a .x)) M e2 (c .before .before .before .before .before .before .before .before .before .before .put-members .ensures) in
+    let e4 = run-on D 6 (P ++ sizesBytes (a .x) ++ M) T e3 (c .before .before .before .before .before .before .put-tail .ensures) in
+    let m : c .before .before .before .before .before .before .before .before .before .before .put-members .result ≤ 84 = omega (arith, members-room (s .args .x) (now (s .args .us)) (now (s .args .vs)) (s .pre .0), c .before .before .before .before .before .before .before .before .before .before .before .before .before .before .before .before .before .before .put-told .ensures .0, c .before .before .before .before .before .before .before .before .before .before .before .before .before .before .put-sizes .ensures .0, c .before .before .before .before .before .before .before .before .before .before .put-members .ensures .0) in
+    let n : c .before .before .before .before .before .before .put-tail .result ≤ 415 = omega (arith, c .before .before .before .before .before .before .put-tail .ensures .0, tail-room (now (a .handed)) (now (a .thrown)) (now (a .released)) (a .c) (s .pre .1 .0)) in
+    framed-last D (P ++ sizesBytes (a .x) ++ M ++ T) 258 e4 (omega (arith, n, s .pre .1 .1 .room)) (c .before .before .put-head .ensures)
 
 pub put-begun-spec : {M : Type 1} → statement M
 put-begun-spec =
     tie.close
     (tie.spec
     put-told-requires
-    put-counts-requires
+    put-sizes-requires
     put-members-requires
     put-tail-requires
     sub-put-head

@@ -1,33 +1,27 @@
--- Each turn writes one entry of twelve bytes behind those before it.
+-- Each turn writes one picture of twelve bytes behind those before it.
 use borrow.Author.Needs.{needs}
-use mathlib.Core.Path.{_≡_, _∙_}
-use Prim.Native.Nat.{_+_, _-_, _*_, _≤_}
+use Prim.Native.Nat.{_+_, _*_, _≤_, _-_}
+use mathlib.Core.Path.{_≡_}
 use native.Mathlib.Omega.{arith}
-use lib.Seq.{sets}
-use lib.ListN.{length, take}
-use Rattle.paper.specs.Words.{flat}
+use lib.ListN.{length}
+use denote.Ref.{now}
 use Rattle.paper.specs.Replies.{shownBytes}
-use Rattle.store.specs.Store.{noShown}
-use Rattle.session.proofs.Bytes.{entry-more, length-shown}
+use Rattle.store.specs.Tails.{shownAt}
+use Rattle.session.proofs.Bytes.{Laid, laid-none, laid-more, length-shown}
 use Rattle.session.proofs.writing.put_handed.Statement.{statement}
 use Rattle.session.proofs.writing.put_handed.Tie as tie
 
 abbrev Inv-loop : tie.InvT-loop
-Inv-loop d₀ at n xs i₀ d i =
-    (i ≤ n) × (n ≤ 16) × (length xs ≡ 16) × (at + 12 * n ≤ length d₀) × (length d ≡ length d₀) × (d ≡ sets d₀ at (flat shownBytes (take i xs)))
+Inv-loop d₀ at handed n i₀ d i = (i ≤ n) × ((n ≤ 16) × (at + 12 * n ≤ length d₀)) × Laid shownBytes (shownAt handed) d₀ at i d
 
 abbrev μ-loop : tie.MeasureT-loop
-μ-loop d₀ at n xs i₀ d i = n - i
+μ-loop d₀ at handed n i₀ d i = n - i
 
 loop-holds : tie.Need-loop-holds Inv-loop μ-loop
-unfolding flat
-loop-holds c = search needs
+loop-holds c = (search needs, search needs, laid-none shownBytes (shownAt (now (c .before .args .handed))) (now (c .before .args .d)) (c .before .args .at))
 
-mul-p : tie.Need-mul-p Inv-loop μ-loop
-mul-p c = search needs
-
-array-copy-out-p : tie.Need-array-copy-out-p Inv-loop μ-loop
-array-copy-out-p c = search needs
+shown-at-requires : tie.Need-shown-at-requires Inv-loop μ-loop
+shown-at-requires c κs = search needs
 
 mul-put-shown : tie.Need-mul-put-shown Inv-loop μ-loop
 mul-put-shown c = search needs
@@ -47,14 +41,8 @@ loop-less c = search needs
 loop-again : tie.Need-loop-again Inv-loop μ-loop
 loop-again c =
     let l = c .before .before .before .before .before .before .loop in
-    let a = c .before .before .before .before .before .before .before .before .args in (
-      search needs,
-      search needs,
-      search needs,
-      search needs,
-      c .before .before .put-shown .kept .0 ∙ l .inv .4,
-      entry-more shownBytes 12 length-shown noShown (a .t3) (a .d .now) (a .at) (l .i) (omega arith) (l .inv .5) (c .before .before .put-shown .ensures .1),
-    )
+    let a = c .before .before .before .before .before .before .before .before .args in
+    (search needs, search needs, laid-more shownBytes (shownAt (now (a .handed))) 12 length-shown (now (a .d)) (a .at) (l .i) (l .inv .2) (c .before .before .put-shown .kept .0) (rw (c .before .before .before .before .shown-at .ensures) at (c .before .before .put-shown .ensures .1)))
 
 mul-result : tie.Need-mul-result Inv-loop μ-loop
 mul-result c = search needs
@@ -66,7 +54,7 @@ same-length : tie.Need-same-length Inv-loop μ-loop
 same-length c = search needs
 
 returns : tie.Need-returns Inv-loop μ-loop
-returns c = let e : c .before .loop .i ≡ c .before .before .before .args .n = omega arith in (search needs, cc)
+returns c = let e : c .before .loop .i ≡ c .before .before .before .args .n = omega arith in (search needs, rw (← e) (c .before .loop .inv .2 .bytes))
 
 pub put-handed-spec : {M : Type 1} → statement M
 put-handed-spec =
@@ -75,8 +63,7 @@ put-handed-spec =
     Inv-loop
     μ-loop
     loop-holds
-    mul-p
-    array-copy-out-p
+    shown-at-requires
     mul-put-shown
     add-put-shown
     put-shown-requires

@@ -1,6 +1,5 @@
--- The six bytes are the head alone, and no refusal's number is 0, so the session stays.
+-- The head alone is the framed refusal.
 use borrow.Author.Needs.{needs}
-use Prim.Native.Nat.{ℕ}
 use native.Mathlib.Omega.{arith}
 use denote.Ref.{now}
 use Rattle.session.proofs.Bytes.{refused-says}
@@ -18,8 +17,8 @@ same-length c = search needs
 
 returns : tie.Need-returns
 returns c =
-    let a = c .before .before .before .before .before .before .args in
-    λ (k : ℕ). refused-says (a .s) k (a .kind) (a .why) (now (a .reply)) (c .before .before .before .before .number .ensures) (c .before .before .put-head .ensures) (omega arith)
+    let s = c .before .before .before .before .before .before in
+    refused-says (s .args .kind) (s .args .why) (now (s .args .reply)) (c .before .before .before .before .number .ensures) (c .before .before .put-head .ensures) (omega (arith, s .pre .room))
 
 pub refuse-spec : {M : Type 1} → statement M
 refuse-spec = tie.close (tie.spec number-requires put-head-requires same-length returns)

@@ -1,42 +1,41 @@
--- Each list is made by a function of its own.
+-- The first word of each part is the picture's, and the serial counts if it was to be handed out.
+use mathlib.Core.Bool.{true, false}
+use denote.Ref.{now}
 use native.Mathlib.Omega.{arith}
+use Rattle.store.proofs.Ends.{drops}
 use borrow.Author.Needs.{needs}
-use Rattle.arrays.proofs.Pad.{is-good, is-view}
 use Rattle.store.proofs.ending.drop_current.Statement.{statement}
 use Rattle.store.proofs.ending.drop_current.Tie as tie
 
-none-requires : tie.Need-none-requires
-none-requires c κs = search needs
+count-thrown-requires : tie.Need-count-thrown-requires
+count-thrown-requires c κs = search needs
 
-empty-requires : tie.Need-empty-requires
-empty-requires c κs = search needs
+count-released-requires : tie.Need-count-released-requires
+count-released-requires c κs = search needs
 
-none-requires-2 : tie.Need-none-requires-2
-none-requires-2 c κs = search needs
+element-write-thrown : tie.Need-element-write-thrown
+element-write-thrown c = search needs
 
-throw-current-requires : tie.Need-throw-current-requires
-throw-current-requires c κs = search needs
-
-push-surface-requires : tie.Need-push-surface-requires
-push-surface-requires c κs = let h = c .before .before .before .none .ensures in (is-good h, omega (arith, h .long))
+element-write-released : tie.Need-element-write-released
+element-write-released c = search needs
 
 returns : tie.Need-returns
 returns c =
-    let n = c .before .before .before .before .none .ensures in
-    record {
-      store = c .before .before .before .empty .ensures;
-      handed = c .before .before .none2 .ensures;
-      thrown = c .before .throw-current .ensures;
-      released = rw (is-view n) at (c .push-surface .ensures);
-    }
+    let a = c .before .before .before .before .before .before .before .args in
+    drops (a .c) (now (a .thrown)) (now (a .released)) true (c .if1 .taken) (omega (arith, c .before .before .before .before .before .count-thrown .ensures .1)) (omega (arith, c .before .before .before .count-released .ensures .1))
+
+returns-2 : tie.Need-returns-2
+returns-2 c =
+    let a = c .before .before .before .before .before .before .before .args in
+    drops (a .c) (now (a .thrown)) (now (a .released)) false (c .if1 .left) (omega (arith, c .before .before .before .before .before .count-thrown .ensures .1)) (omega (arith, c .before .before .before .count-released .ensures .1))
 
 pub drop-current-spec : {M : Type 1} → statement M
 drop-current-spec =
     tie.close
     (tie.spec
-    none-requires
-    empty-requires
-    none-requires-2
-    throw-current-requires
-    push-surface-requires
-    returns)
+    count-thrown-requires
+    count-released-requires
+    element-write-thrown
+    element-write-released
+    returns
+    returns-2)

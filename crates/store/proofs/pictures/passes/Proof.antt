@@ -28,12 +28,6 @@ is-short-at-requires c κs = search needs
 enum-known-t-4 : tie.Need-enum-known-t-4
 enum-known-t-4 c = search needs
 
-is-late-by-requires : tie.Need-is-late-by-requires
-is-late-by-requires c κs = search needs
-
-enum-known-t-5 : tie.Need-enum-known-t-5
-enum-known-t-5 c = search needs
-
 is-held-by-requires : tie.Need-is-held-by-requires
 is-held-by-requires c κs = search needs
 
@@ -56,10 +50,7 @@ returns-3 c =
     rw (c .before .before .t3 .given .1) (c .is-short-at .ensures ∙ rw (toZ-ofZ w32 z f))
 
 returns-4 : tie.Need-returns-4
-returns-4 c = rw (c .before .before .t4 .given .1) (c .is-late-by .ensures)
-
-returns-5 : tie.Need-returns-5
-returns-5 c = rw (c .before .before .t5 .given .1) (c .is-held-by .ensures)
+returns-4 c = rw (c .before .before .t4 .given .1) (c .is-held-by .ensures)
 
 pub passes-spec : {M : Type 1} → statement M
 passes-spec =
@@ -72,11 +63,8 @@ passes-spec =
     enum-known-t-3
     is-short-at-requires
     enum-known-t-4
-    is-late-by-requires
-    enum-known-t-5
     is-held-by-requires
     returns
     returns-2
     returns-3
-    returns-4
-    returns-5)
+    returns-4)

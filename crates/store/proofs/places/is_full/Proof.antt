@@ -1,28 +1,26 @@
 -- The lesser of the capacity and 16 is compared.
-use mathlib.Core.Path.{_≡_}
-use native.Mathlib.Omega.{arith}
-use Prim.Native.Nat.{min}
+use mathlib.Core.Path.{sym, _∙_}
+use denote.Ref.{now}
+use Rattle.paper.proofs.Fits.{table-length}
+use Rattle.store.specs.Shelf.{pictureAt, countIn}
+use Rattle.store.proofs.Shelf.{full-is}
 use borrow.Author.Needs.{needs}
 use Rattle.store.proofs.places.is_full.Statement.{statement}
 use Rattle.store.proofs.places.is_full.Tie as tie
 
+-- src/places.rt:31:16
+cast-most : tie.Need-cast-most
+cast-most c = search needs
+
+-- src/places.rt:32:9
 used-places-requires : tie.Need-used-places-requires
 used-places-requires c κs = search needs
 
-cast-capacity : tie.Need-cast-capacity
-cast-capacity c = search needs
-
+-- src/places.rt:28:1
 returns : tie.Need-returns
 returns c =
-    let s = c .before .before .before in
-    let e : min (s .args .l .capacity) 16 ≡ s .args .l .capacity = omega (arith, c .if1 .taken) in
-    rw (e, c .before .before .used-places .ensures .0)
-
-returns-2 : tie.Need-returns-2
-returns-2 c =
-    let s = c .before .before .before in
-    let e : min (s .args .l .capacity) 16 ≡ 16 = omega (arith, c .if1 .left) in
-    rw (e, c .before .before .used-places .ensures .0)
+    let s = c .before .before in
+    full-is (s .args .l .capacity) (c .used-places .result) _ (c .used-places .ensures .1) (sym (table-length (pictureAt (now (s .args .t))) (countIn (now (s .args .t))) ∙ sym (c .used-places .ensures .0)))
 
 pub is-full-spec : {M : Type 1} → statement M
-is-full-spec = tie.close (tie.spec used-places-requires cast-capacity returns returns-2)
+is-full-spec = tie.close (tie.spec cast-most used-places-requires returns)

@@ -1,45 +1,47 @@
--- The search from here on finds what the whole search finds.
-use mathlib.Core.Path.{_∙_, _≡_, refl, sym}
+-- None of the pictures passed is sought, so the first that is ends the walk.
+use Prim.Native.Nat.{_≤_, _<_, _-_}
+use mathlib.Core.Bool.{true, false}
+use mathlib.Core.Path.{_≡_, sym, ap, _∙_}
 use native.Mathlib.Omega.{arith}
-use Prim.Native.Nat.{_-_, _<_, _≤_}
-use lib.ListN.{drop, length}
-use Rattle.paper.specs.Sets.{firstOf}
-use Rattle.store.proofs.Walks.{first-end, first-hit, first-miss}
-use Rattle.store.specs.Store.{view}
+use denote.Ref.{now}
+use borrow.Author.Needs.{needs}
+use Rattle.paper.specs.declared.Picture.{Picture}
+use Rattle.paper.specs.Words.{anyB}
 use Rattle.store.specs.Walks.{passing}
+use Rattle.store.specs.Shelf.{pictureAt, pictures, countIn}
+use Rattle.store.proofs.Walks.{any-none, any-miss, first-hit, first-none}
 use Rattle.store.proofs.searching.find_first.Statement.{statement}
 use Rattle.store.proofs.searching.find_first.Tie as tie
 
 abbrev Inv-loop : tie.InvT-loop
-Inv-loop t s n i₀ i = (i ≤ n) × (firstOf (passing t) (drop i (view s)) ≡ firstOf (passing t) (view s))
+Inv-loop t x n i₀ i = (i ≤ n) × (anyB (passing x) (pictures t i) ≡ false)
 
 abbrev μ-loop : tie.MeasureT-loop
-μ-loop t s n i₀ i = n - i
+μ-loop t x n i₀ i = n - i
 
 used-places-requires : tie.Need-used-places-requires Inv-loop μ-loop
-used-places-requires c κs = tt
+used-places-requires c κs = search needs
 
 loop-holds : tie.Need-loop-holds Inv-loop μ-loop
-loop-holds c = (omega arith, refl)
+loop-holds c = (omega arith, any-none _ _)
 
-mul-p : tie.Need-mul-p Inv-loop μ-loop
-mul-p c = omega (arith, c .before .before .used-places .ensures .1)
-
-element-copy-out-p : tie.Need-element-copy-out-p Inv-loop μ-loop
-element-copy-out-p c = omega (arith, c .before .before .used-places .ensures .1)
+picture-at-requires : tie.Need-picture-at-requires Inv-loop μ-loop
+picture-at-requires c κs = omega (arith, c .before .before .used-places .ensures .1)
 
 passes-requires : tie.Need-passes-requires Inv-loop μ-loop
-passes-requires c κs = tt
+passes-requires c κs = search needs
 
 returns : tie.Need-returns Inv-loop μ-loop
 returns c =
     let k = c .before .before .before .before .before in
     let a = k .before .before .args in
-    let lt : k .loop .i < length (view (a .t1)) = omega (arith, k .before .used-places .ensures .0) in
-    sym (first-hit (a .t1) (k .loop .i) (passing (a .t)) lt (sym (c .before .before .passes .ensures) ∙ c .before .if1 .taken)) ∙ k .loop .inv .1
+    let q = c .before .before .before .picture-at in
+    let n : k .loop .i < k .before .used-places .result = omega arith in
+    let t : passing (a .x) (pictureAt (now (a .t)) (k .loop .i)) ≡ true = ap (passing (a .x)) (sym (q .ensures)) ∙ sym (c .before .before .passes .ensures) ∙ c .before .if1 .taken in
+    ap (λ (p : Picture). p .serial) (q .ensures) ∙ sym (first-hit (passing (a .x)) (pictureAt (now (a .t))) (k .loop .i) _ (rw (k .before .used-places .ensures .0) at n) (k .loop .inv .1) t)
 
 add-i : tie.Need-add-i Inv-loop μ-loop
-add-i c = omega (arith, c .before .before .before .before .before .used-places .ensures .1)
+add-i c = omega arith
 
 loop-less : tie.Need-loop-less Inv-loop μ-loop
 loop-less c = omega arith
@@ -48,15 +50,14 @@ loop-again : tie.Need-loop-again Inv-loop μ-loop
 loop-again c =
     let k = c .before .before .before .before in
     let a = k .before .before .args in
-    let lt : k .loop .i < length (view (a .t1)) = omega (arith, k .before .used-places .ensures .0) in
-    (omega arith, first-miss (a .t1) (k .loop .i) (passing (a .t)) lt (sym (c .before .passes .ensures) ∙ c .if1 .left) ∙ k .loop .inv .1)
+    (omega arith, any-miss (passing (a .x)) (pictureAt (now (a .t))) (k .loop .i) (k .loop .inv .1) (ap (passing (a .x)) (sym (c .before .before .picture-at .ensures)) ∙ sym (c .before .passes .ensures) ∙ c .if1 .left))
 
 returns-2 : tie.Need-returns-2 Inv-loop μ-loop
 returns-2 c =
     let k = c .before in
     let a = k .before .before .args in
-    let le : length (view (a .t1)) ≤ k .loop .i = omega (arith, k .before .used-places .ensures .0) in
-    sym (first-end (a .t1) (k .loop .i) (passing (a .t)) le) ∙ k .loop .inv .1
+    let e : k .loop .i ≡ countIn (now (a .t)) = omega (arith, k .before .used-places .ensures .0) in
+    sym (first-none (passing (a .x)) _ (rw e at (k .loop .inv .1)))
 
 pub find-first-spec : {M : Type 1} → statement M
 find-first-spec =
@@ -66,8 +67,7 @@ find-first-spec =
     μ-loop
     used-places-requires
     loop-holds
-    mul-p
-    element-copy-out-p
+    picture-at-requires
     passes-requires
     returns
     add-i

@@ -1,47 +1,44 @@
--- The test of those from here on is the test of all, since none before holds the surface.
-use mathlib.Core.Path.{_∙_, _≡_, refl, sym}
+-- None of the pictures passed holds it, so the first that does ends the walk.
+use Prim.Native.Nat.{_≤_, _<_, _-_}
+use mathlib.Core.Bool.{false}
+use mathlib.Core.Path.{_≡_, sym, ap, _∙_}
 use native.Mathlib.Omega.{arith}
-use Prim.Native.Nat.{_-_, _<_, _≤_}
-use lib.ListN.{drop, length}
+use denote.Ref.{now}
+use borrow.Author.Needs.{needs}
 use Rattle.paper.specs.Words.{anyB}
 use Rattle.paper.specs.Step.{heldBy}
-use Rattle.store.proofs.Walks.{any-end, any-hit, any-miss}
-use Rattle.store.specs.Store.{blank, view}
-use Rattle.store.specs.Walks.{passing}
+use Rattle.store.specs.Shelf.{pictureAt, pictures, countIn}
+use Rattle.store.proofs.Walks.{any-none, any-miss, any-hit}
 use Rattle.store.proofs.searching.holds_surface.Statement.{statement}
 use Rattle.store.proofs.searching.holds_surface.Tie as tie
 
 abbrev Inv-loop : tie.InvT-loop
-Inv-loop s n t i₀ i = (i ≤ n) × (anyB (passing t) (drop i (view s)) ≡ anyB (passing t) (view s))
+Inv-loop t x n i₀ i = (i ≤ n) × (anyB (heldBy x) (pictures t i) ≡ false)
 
 abbrev μ-loop : tie.MeasureT-loop
-μ-loop s n t i₀ i = n - i
+μ-loop t x n i₀ i = n - i
 
 used-places-requires : tie.Need-used-places-requires Inv-loop μ-loop
-used-places-requires c κs = tt
+used-places-requires c κs = search needs
 
 loop-holds : tie.Need-loop-holds Inv-loop μ-loop
-loop-holds c = (omega arith, refl)
+loop-holds c = (omega arith, any-none _ _)
 
-mul-p : tie.Need-mul-p Inv-loop μ-loop
-mul-p c = omega (arith, c .before .before .used-places .ensures .1)
-
-element-copy-out-p : tie.Need-element-copy-out-p Inv-loop μ-loop
-element-copy-out-p c = omega (arith, c .before .before .used-places .ensures .1)
+picture-at-requires : tie.Need-picture-at-requires Inv-loop μ-loop
+picture-at-requires c κs = omega (arith, c .before .before .used-places .ensures .1)
 
 passes-requires : tie.Need-passes-requires Inv-loop μ-loop
-passes-requires c κs = tt
+passes-requires c κs = search needs
 
 returns : tie.Need-returns Inv-loop μ-loop
 returns c =
     let k = c .before .before .before .before in
     let a = k .before .before .args in
-    let s = a .t1 in
-    let lt : k .loop .i < length (view s) = omega (arith, k .before .used-places .ensures .0) in
-    sym (any-hit blank (s .len) (s .pics) (k .loop .i) (heldBy (a .x)) lt (sym (c .before .passes .ensures) ∙ c .if1 .taken)) ∙ k .loop .inv .1
+    let n : k .loop .i < countIn (now (a .t)) = omega (arith, k .before .used-places .ensures .0) in
+    sym (any-hit (heldBy (a .x)) (pictureAt (now (a .t))) (k .loop .i) _ n (ap (heldBy (a .x)) (sym (c .before .before .picture-at .ensures)) ∙ sym (c .before .passes .ensures) ∙ c .if1 .taken))
 
 add-i : tie.Need-add-i Inv-loop μ-loop
-add-i c = omega (arith, c .before .before .before .before .before .used-places .ensures .1)
+add-i c = omega arith
 
 loop-less : tie.Need-loop-less Inv-loop μ-loop
 loop-less c = omega arith
@@ -50,17 +47,14 @@ loop-again : tie.Need-loop-again Inv-loop μ-loop
 loop-again c =
     let k = c .before .before .before .before in
     let a = k .before .before .args in
-    let s = a .t1 in
-    let lt : k .loop .i < length (view s) = omega (arith, k .before .used-places .ensures .0) in
-    (omega arith, any-miss blank (s .len) (s .pics) (k .loop .i) (heldBy (a .x)) lt (sym (c .before .passes .ensures) ∙ c .if1 .left) ∙ k .loop .inv .1)
+    (omega arith, any-miss (heldBy (a .x)) (pictureAt (now (a .t))) (k .loop .i) (k .loop .inv .1) (ap (heldBy (a .x)) (sym (c .before .before .picture-at .ensures)) ∙ sym (c .before .passes .ensures) ∙ c .if1 .left))
 
 returns-2 : tie.Need-returns-2 Inv-loop μ-loop
 returns-2 c =
     let k = c .before in
     let a = k .before .before .args in
-    let s = a .t1 in
-    let le : length (view s) ≤ k .loop .i = omega (arith, k .before .used-places .ensures .0) in
-    sym (any-end blank (s .len) (s .pics) (k .loop .i) (heldBy (a .x)) le) ∙ k .loop .inv .1
+    let e : k .loop .i ≡ countIn (now (a .t)) = omega (arith, k .before .used-places .ensures .0) in
+    sym (rw e at (k .loop .inv .1))
 
 pub holds-surface-spec : {M : Type 1} → statement M
 holds-surface-spec =
@@ -70,8 +64,7 @@ holds-surface-spec =
     μ-loop
     used-places-requires
     loop-holds
-    mul-p
-    element-copy-out-p
+    picture-at-requires
     passes-requires
     returns
     add-i

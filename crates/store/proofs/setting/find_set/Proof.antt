@@ -1,87 +1,80 @@
--- What was found before stands in front, and then what the wishes walked over ask for.
-use mathlib.Core.List.{[], List, _++_, _∷_, append-nil, map}
-use mathlib.Core.Path.{_∙_, _≡_, sym}
-use native.Mathlib.Omega.{arith}
-use Prim.Native.Nat.{_+_, _-_, _<_, _^_, _≤_, min}
-use lib.ListN.{drop, getD, length, length-drop, length-map, take}
-use lib.Seq.{getD-drop}
+-- What was found before stands in front, and behind it what the entries walked over ask for.
+use mathlib.Core.Path.{ap, _∙_, _≡_}
+use Prim.Native.Nat.{ℕ, _+_, _-_, _^_, _≤_, min}
+use lib.IntN.{ℤ, pos}
+use lib.ListN.{getD}
+use mir.Val.{SFits}
+use mir.Syntax.{w32}
+use mir.ValLaws.{toZ-ofZ}
+use Rattle.paper.specs.Numbers.{bit}
+use Rattle.store.specs.Runs.{answer}
 use borrow.Author.Needs.{needs}
-use Rattle.paper.specs.Words.{keep}
-use Rattle.paper.specs.declared.Picture.{Picture}
-use Rattle.paper.specs.declared.Serial.{Serial}
-use Rattle.store.proofs.Walks.{behind, sift-more}
-use Rattle.store.specs.References.{HoldsRun, Shows}
-use Rattle.store.specs.Members.{answer, answers, flagged}
-use Rattle.store.specs.Sets.{noWish}
+use denote.Ref.{now}
+use native.Mathlib.Omega.{arith}
+use Rattle.store.proofs.Runs.{Walked, walked-none, walked-more}
+use Rattle.store.specs.Shelf.{stored}
 use Rattle.store.proofs.setting.find_set.Statement.{statement}
 use Rattle.store.proofs.setting.find_set.Tie as tie
 
 abbrev Inv-loop : tie.InvT-loop
-Inv-loop pocs marks names stored a from n into₀ len wishes t₀ i₀ into t i =
-    (i ≤ n) × ((len ≤ t) × ((t ≤ len + i) × ((ps : List Picture) (l : List Serial) → Shows ps pocs marks names stored → HoldsRun into₀ len l → HoldsRun into t (l ++ answers a ps (take i (drop from wishes))))))
+Inv-loop t long k pocs hows from n us₀ vs₀ r₀ i₀ us vs r i = (i ≤ n) × Walked long (2 ^ (min k 16)) (stored t) pocs hows from us₀ vs₀ r₀ i us vs r
 
 abbrev μ-loop : tie.MeasureT-loop
-μ-loop pocs marks names stored a from n into₀ len wishes t₀ i₀ into t i = n - i
-
-long : (c : tie.Start Inv-loop μ-loop) → length (c .args .t6) ≡ 16
-long c = search needs
+μ-loop t long k pocs hows from n us₀ vs₀ r₀ i₀ us vs r i = n - i
 
 loop-holds : tie.Need-loop-holds Inv-loop μ-loop
-unfolding keep
-loop-holds c = (omega arith, (omega arith, (omega arith, λ ps l h g. rw append-nil g)))
+loop-holds c = (omega arith, walked-none _ _ _ _ _ _ _ _ _)
 
 add-at : tie.Need-add-at Inv-loop μ-loop
-add-at c = omega (arith, c .before .before .pre .1 .within)
+add-at c = omega arith
 
-mul-e : tie.Need-mul-e Inv-loop μ-loop
-mul-e c = omega (arith, c .before .before .pre .1 .within)
+element-copy-out-how : tie.Need-element-copy-out-how Inv-loop μ-loop
+element-copy-out-how c = omega arith
 
-array-copy-out-e : tie.Need-array-copy-out-e Inv-loop μ-loop
-array-copy-out-e c = omega (arith, c .before .before .pre .1 .within)
+mul-poc : tie.Need-mul-poc Inv-loop μ-loop
+mul-poc c = omega arith
 
-find-one-requires : tie.Need-find-one-requires Inv-loop μ-loop
-find-one-requires c κs =
-    let k = c .before .before .before in
-    let s = k .before in
-    (s .pre .0, omega (arith, k .loop .inv .1 .1 .0, s .pre .1 .room))
+element-copy-out-poc : tie.Need-element-copy-out-poc Inv-loop μ-loop
+element-copy-out-poc c = omega arith
+
+find-wish-requires : tie.Need-find-wish-requires Inv-loop μ-loop
+find-wish-requires c κs = search needs
+
+bit0-requires : tie.Need-bit0-requires Inv-loop μ-loop
+bit0-requires c κs = search needs
+
+join-requires : tie.Need-join-requires Inv-loop μ-loop
+join-requires c κs =
+    let k = c .before .before .before .before .before .before .before in
+    let few = k .loop .inv .1 .few in
+    (omega (arith, k .before .pre .1), omega (arith, k .before .pre .1))
 
 add-i : tie.Need-add-i Inv-loop μ-loop
-add-i c = omega (arith, c .before .before .before .before .before .pre .1 .within)
+add-i c = omega arith
 
 loop-less : tie.Need-loop-less Inv-loop μ-loop
 loop-less c = omega arith
 
 loop-again : tie.Need-loop-again Inv-loop μ-loop
 loop-again c =
-    let k = c .before .before .before .before in
-    let s = k .before in
-    let a = s .args .a in
+    let k = c .before .before .before .before .before .before .before .before in
+    let a = k .before .args in
     let i = k .loop .i in
-    let v = k .loop .inv .1 in
-    let w = drop (s .args .from) (s .args .t6) in
-    let f = flagged (a .used) in
-    let r = c .find-one .ensures in
-    let lt : i < length w = omega (arith, length-drop (s .args .from) (s .args .t6), long s, s .pre .1 .within) in (
-      omega arith,
-      (
-        omega (arith, v .0, r .0 .0),
-        (
-          omega (arith, v .1 .0, r .0 .1),
-          λ ps l h g.
-              let q = answer (a .long) (2 ^ (min (a .k) 16)) ps in
-              let e = behind l (map q (keep f (take i w))) (map q (keep f (getD w i noWish ∷ []))) (sift-more f q w i noWish lt) in
-              rw (← getD-drop (s .args .from) (s .args .t6) i noWish, e) at (r .1 ps (l ++ map q (keep f (take i w))) h (v .1 .1 ps l h g)),
-        ),
-      ),
-    )
+    let M = 2 ^ (min (a .k) 16) in
+    let ps = stored (now (a .t)) in
+    let z : ℤ = getD (now (a .pocs)) (a .from + i) (pos 0) in
+    let h : ℕ = getD (now (a .hows)) (a .from + i) 0 in
+    let f : SFits w32 z = search needs in
+    let e = ap (λ (y : ℤ). answer (a .long) M ps (record { poc = y; used = bit 0 h; whole = bit 1 h })) (toZ-ofZ w32 z f) in
+    let g = rw (c .before .before .before .before .find-wish .ensures ∙ e, c .before .before .before .bit0 .ensures) at (c .join .ensures) in
+    (omega arith, walked-more (a .long) M ps (now (a .pocs)) (now (a .hows)) (a .from) (now (a .us)) (now (a .vs)) (a .x) i (k .loop .inv .1) g)
 
 returns : tie.Need-returns Inv-loop μ-loop
 returns c =
     let k = c .before in
-    let s = k .before in
-    let v = k .loop .inv .1 in
-    let e : k .loop .i ≡ s .args .n = omega arith in
-    ((v .0, rw e at (v .1 .0)), λ ps l h g. rw e at (v .1 .1 ps l h g))
+    let e : k .loop .i ≡ k .before .args .n = omega arith in
+    let w = rw e at (k .loop .inv .1) in
+    ((w .few, w .used, w .rest), w .joins)
 
 pub find-set-spec : {M : Type 1} → statement M
 find-set-spec =
@@ -91,9 +84,12 @@ find-set-spec =
     μ-loop
     loop-holds
     add-at
-    mul-e
-    array-copy-out-e
-    find-one-requires
+    element-copy-out-how
+    mul-poc
+    element-copy-out-poc
+    find-wish-requires
+    bit0-requires
+    join-requires
     add-i
     loop-less
     loop-again

@@ -1,0 +1,88 @@
+-- A full store is refused with 9; else the store finishes the picture and its tail is the reply.
+use Prim.Native.Nat.{ℕ, _<_}
+use mathlib.Core.Path.{_≡_, sym, _∙_}
+use mathlib.Core.List.{List, []}
+use lib.ListN.{length, replicate}
+use denote.Ref.{now}
+use Rattle.paper.specs.Calls.{full}
+use Rattle.paper.proofs.Fits.{spare}
+use Rattle.store.specs.Shelf.{stored}
+use Rattle.session.specs.View.{memory, sessionIn}
+use Rattle.session.proofs.Saying.{full-is, few-leaves, few-finished, finish-9, finish-does}
+use borrow.Author.Needs.{needs}
+use Rattle.session.proofs.closing.finish_at.Statement.{statement}
+use Rattle.session.proofs.closing.finish_at.Tie as tie
+
+-- the test is the paper's, and behind it is room
+tested : (c : tie.After-is-full) (xs : List ℕ) → c .is-full .result ≡ full (sessionIn (memory (now (c .before .before .before .before .before .args .head)) xs (now (c .before .before .before .before .before .args .places))))
+tested c xs = full-is (now (c .before .before .before .before .before .args .head)) xs (now (c .before .before .before .before .before .args .places)) (c .before .before .limits-in .ensures) (c .is-full .ensures)
+
+room : (c : tie.Else1) → length (stored (now (c .before .before .before .before .before .before .args .places))) < 16
+room c = let a = c .before .before .before .before .before .before .args in spare (sessionIn (memory (now (a .head)) [] (now (a .places)))) (sym (tested (c .before) []) ∙ c .if1 .left)
+
+limits-in-requires : tie.Need-limits-in-requires
+limits-in-requires c κs = search needs
+
+is-full-requires : tie.Need-is-full-requires
+is-full-requires c κs = search needs
+
+refuse-requires : tie.Need-refuse-requires
+refuse-requires c κs = search needs
+
+same-length : tie.Need-same-length
+same-length c = search needs
+
+returns : tie.Need-returns
+returns c =
+    let k = c .before .before .before .before in
+    let s = k .before .before .before .before .before .before in
+    λ xs. finish-9 (now (s .args .head)) xs (now (s .args .places)) (s .args .c) (s .pre .0) (sym (tested (k .before) xs) ∙ k .if1 .taken) (c .before .before .refuse .ensures)
+
+finish-picture-requires : tie.Need-finish-picture-requires
+finish-picture-requires c κs = room (c .before .before .before)
+
+prev-in-requires : tie.Need-prev-in-requires
+prev-in-requires c κs = search needs
+
+prev-after-requires : tie.Need-prev-after-requires
+prev-after-requires c κs = search needs
+
+put-idle-requires : tie.Need-put-idle-requires
+put-idle-requires c κs = search needs
+
+put-done-requires : tie.Need-put-done-requires
+put-done-requires c κs =
+    let f = c .before .before .before .before .before .before .before .before .before in
+    let k = f .before .before .before .before in
+    let a = k .before .before .before .before .before .before .args in
+    (few-leaves (f .finish-picture .ensures []) (few-finished (k .before .before .before .limits-in .result) (stored (now (a .places))) (a .c) (room k)), search needs)
+
+same-length-2 : tie.Need-same-length-2
+same-length-2 c = search needs
+
+returns-2 : tie.Need-returns-2
+returns-2 c =
+    let i = c .before .before .before .before .before .before .before in
+    let f = i .before .before .before .before .before in
+    let k = f .before .before .before .before in
+    let s = k .before .before .before .before .before .before in
+    λ xs.
+    finish-does (now (s .args .head)) xs (now (s .args .places)) (s .args .c) (s .pre .0) (sym (tested (k .before) xs) ∙ k .if1 .left) (k .before .before .before .limits-in .ensures) (i .before .before .before .prev-in .ensures) (i .before .prev-after .ensures)
+    (f .finish-picture .ensures (replicate 17 0)) (i .put-idle .ensures) (c .before .before .put-done .ensures)
+
+pub finish-at-spec : {M : Type 1} → statement M
+finish-at-spec =
+    tie.close
+    (tie.spec
+    limits-in-requires
+    is-full-requires
+    refuse-requires
+    same-length
+    returns
+    finish-picture-requires
+    prev-in-requires
+    prev-after-requires
+    put-idle-requires
+    put-done-requires
+    same-length-2
+    returns-2)

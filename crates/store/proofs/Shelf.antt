@@ -1,0 +1,205 @@
+-- A write to the words of one place changes the picture there and no other, for the words of two places are apart. Assumes nothing.
+use Prim.Native.Nat.{ℕ, zero, suc, _+_, _*_, _≤_, _<_, min}
+use lib.Dec.{leb}
+use borrow.Author.Tests.{leb-true, leb-false, le-leb, lt-leb}
+use Rattle.paper.proofs.Bools.{split}
+use mathlib.Core.Path.{_≡_, refl, sym, ap, ap₂, _∙_}
+use mathlib.Core.Bool.{Bool, true, false, _||_}
+use mathlib.Core.List.{List, [], _∷_, _++_, map, map-append, append-assoc, append-nil}
+use native.Mathlib.Omega.{arith}
+use native.Mathlib.Numerals.{add-one}
+use lib.ListN.{length, set, length-set}
+use lib.Seq.{getD-set-same, getD-set-other}
+use mir.Syntax.{w32}
+use mir.Val.{SFits, toZ, ofZ}
+use mir.ValLaws.{toZ-ofZ}
+use Rattle.paper.specs.Words.{table}
+use Rattle.paper.specs.Numbers.{aSerial, aSurface}
+use Rattle.paper.specs.declared.Mark.{Mark}
+use Rattle.paper.specs.declared.Mark.the-variants.{Unmarked, ShortTerm, LongTerm}
+use Rattle.paper.specs.declared.Picture.{Picture}
+use Rattle.paper.specs.Sets.{marked}
+use Rattle.store.specs.Shelf.{word, flagOf, flagWord, markOf, markWord, pictureAt, pictures, Puts, quieted, recounted}
+
+pub flag-back : (b : Bool) → flagOf (flagWord b) ≡ b
+flag-back true = refl
+flag-back false = refl
+
+pub mark-back : (m : Mark) → markOf (markWord m) ≡ m
+mark-back Unmarked = refl
+mark-back ShortTerm = refl
+mark-back LongTerm = refl
+
+-- ---- tables
+
+pub table-more : {A : Type 0} (f : ℕ → A) (i : ℕ) → table f (i + 1) ≡ table f i ++ (f i ∷ [])
+unfolding table
+table-more f i = rw (add-one i)
+
+pub table-same : {A : Type 0} (f g : ℕ → A) (n : ℕ) → ((i : ℕ) → i < n → f i ≡ g i) → table f n ≡ table g n
+unfolding table
+table-same f g zero h = refl
+table-same f g (suc n) h = ap₂ (λ (a : List _) (b : _). a ++ (b ∷ [])) (table-same f g n (λ i l. h i (omega arith))) (h n (omega arith))
+
+-- one element behind those of a table that was the same
+pub table-next : {A : Type 0} (f g : ℕ → A) (n : ℕ) (x : A) → ((i : ℕ) → i < n → f i ≡ g i) → f n ≡ x → table f (n + 1) ≡ table g n ++ (x ∷ [])
+table-next f g n x h e = table-more f n ∙ ap₂ (λ (a : List _) (b : _). a ++ (b ∷ [])) (table-same f g n h) e
+
+pub table-map : {A B : Type 0} (g : A → B) (f : ℕ → A) (n : ℕ) → map g (table f n) ≡ table (λ (i : ℕ). g (f i)) n
+unfolding table
+table-map g f zero = refl
+table-map g f (suc n) = map-append g (table f n) (f n ∷ []) ∙ rw (table-map g f n)
+
+-- a table in two parts
+pub table-join : {A : Type 0} (f : ℕ → A) (a b : ℕ) → table f (a + b) ≡ table f a ++ table (λ (i : ℕ). f (a + i)) b
+unfolding table
+table-join f a zero = let z : a + 0 ≡ a = omega arith in ap (table f) z ∙ sym (append-nil (table f a))
+table-join f a (suc b) =
+    let z : a + suc b ≡ suc (a + b) = omega arith in
+    ap (table f) z ∙ ap (λ (xs : List _). xs ++ (f (a + b) ∷ [])) (table-join f a b) ∙ append-assoc (table f a) (table (λ (i : ℕ). f (a + i)) b) (f (a + b) ∷ [])
+
+-- ---- words
+
+-- another word than the one written
+off : (t : List ℕ) (a b v : ℕ) → (b ≡ a → ⊥) → word (set t a v) b ≡ word t b
+off t a b v n = getD-set-other t a b v 0 n
+
+-- one word behind the first k, each read by g
+pub word-more : {A : Type 0} (g : ℕ → A) (xs : List ℕ) (k v : ℕ) → k < length xs → table (λ (i : ℕ). g (word (set xs k v) i)) (k + 1) ≡ table (λ (i : ℕ). g (word xs i)) k ++ (g v ∷ [])
+word-more g xs k v lt =
+    table-next (λ (i : ℕ). g (word (set xs k v) i)) (λ (i : ℕ). g (word xs i)) k (g v) (λ i l. ap g (off xs k i v (λ e. omega arith))) (ap g (getD-set-same xs k v 0 lt))
+
+-- a picture behind the first n
+pub stores : (n : ℕ) (p : Picture) (t t′ : List ℕ) (ps : List Picture) → Puts n p t t′ → pictures t n ≡ ps → pictures t′ (n + 1) ≡ ps ++ (p ∷ [])
+stores n p t t′ ps h e = table-next (pictureAt t′) (pictureAt t) n p (λ i l. h .others i (λ x. omega arith)) (h .at) ∙ ap (λ (l : List Picture). l ++ (p ∷ [])) e
+
+-- the picture at another place than the one written to
+pub elsewhere : (t : List ℕ) (i f v j : ℕ) → f < 6 → (j ≡ i → ⊥) → pictureAt (set t (6 * i + f) v) j ≡ pictureAt t j
+unfolding pictureAt
+elsewhere t i f v j lf n =
+    let o : (g : ℕ) → g < 6 → word (set t (6 * i + f) v) (6 * j + g) ≡ word t (6 * j + g) = λ g lg. off t (6 * i + f) (6 * j + g) v (λ e. n (omega arith)) in
+    let o0 : word (set t (6 * i + f) v) (6 * j) ≡ word t (6 * j) = off t (6 * i + f) (6 * j) v (λ e. n (omega arith)) in
+    rw (o0, o 1 (omega arith), o 2 (omega arith), o 3 (omega arith), o 4 (omega arith), o 5 (omega arith))
+
+-- ---- one place written
+
+-- the words of a row, and any words behind one another
+module _ (t : List ℕ) (at a b c d e f : ℕ) (room : at + 6 ≤ length t) where
+  abbrev t1 : List ℕ
+  t1 = set t at a
+
+  abbrev t2 : List ℕ
+  t2 = set t1 (at + 1) b
+
+  abbrev t3 : List ℕ
+  t3 = set t2 (at + 2) c
+
+  abbrev t4 : List ℕ
+  t4 = set t3 (at + 3) d
+
+  abbrev t5 : List ℕ
+  t5 = set t4 (at + 4) e
+
+  abbrev pub six : List ℕ
+  six = set t5 (at + 5) f
+
+  pub word0 : word six at ≡ a
+  word0 =
+      off t5 (at + 5) at f (λ x. omega arith) ∙ off t4 (at + 4) at e (λ x. omega arith) ∙ off t3 (at + 3) at d (λ x. omega arith) ∙ off t2 (at + 2) at c (λ x. omega arith)
+      ∙ off t1 (at + 1) at b (λ x. omega arith) ∙ getD-set-same t at a 0 (omega arith)
+
+  pub word1 : word six (at + 1) ≡ b
+  word1 =
+      off t5 (at + 5) (at + 1) f (λ x. omega arith) ∙ off t4 (at + 4) (at + 1) e (λ x. omega arith) ∙ off t3 (at + 3) (at + 1) d (λ x. omega arith)
+      ∙ off t2 (at + 2) (at + 1) c (λ x. omega arith) ∙ getD-set-same t1 (at + 1) b 0 (omega (arith, length-set t at a))
+
+  pub word2 : word six (at + 2) ≡ c
+  word2 =
+      off t5 (at + 5) (at + 2) f (λ x. omega arith) ∙ off t4 (at + 4) (at + 2) e (λ x. omega arith) ∙ off t3 (at + 3) (at + 2) d (λ x. omega arith)
+      ∙ getD-set-same t2 (at + 2) c 0 (omega (arith, length-set t at a, length-set t1 (at + 1) b))
+
+  pub word3 : word six (at + 3) ≡ d
+  word3 =
+      off t5 (at + 5) (at + 3) f (λ x. omega arith) ∙ off t4 (at + 4) (at + 3) e (λ x. omega arith)
+      ∙ getD-set-same t3 (at + 3) d 0 (omega (arith, length-set t at a, length-set t1 (at + 1) b, length-set t2 (at + 2) c))
+
+  pub word4 : word six (at + 4) ≡ e
+  word4 = off t5 (at + 5) (at + 4) f (λ x. omega arith) ∙ getD-set-same t4 (at + 4) e 0 (omega (arith, length-set t at a, length-set t1 (at + 1) b, length-set t2 (at + 2) c, length-set t3 (at + 3) d))
+
+  pub word5 : word six (at + 5) ≡ f
+  word5 = getD-set-same t5 (at + 5) f 0 (omega (arith, length-set t at a, length-set t1 (at + 1) b, length-set t2 (at + 2) c, length-set t3 (at + 3) d, length-set t4 (at + 4) e))
+
+  pub beyond : (k : ℕ) → at + 6 ≤ k → word six k ≡ word t k
+  beyond k le =
+      off t5 (at + 5) k f (λ x. omega arith) ∙ off t4 (at + 4) k e (λ x. omega arith) ∙ off t3 (at + 3) k d (λ x. omega arith) ∙ off t2 (at + 2) k c (λ x. omega arith)
+      ∙ off t1 (at + 1) k b (λ x. omega arith) ∙ off t at k a (λ x. omega arith)
+
+-- six words at place i: what stands there is read from them
+module _ (t : List ℕ) (i a b c d e f : ℕ) (room : 97 ≤ length t) (lt : i < 16) where
+  abbrev now6 : List ℕ
+  now6 = six t (6 * i) a b c d e f (omega arith)
+
+  others6 : (j : ℕ) → (j ≡ i → ⊥) → pictureAt now6 j ≡ pictureAt t j
+  others6 j n =
+      let at = 6 * i in
+      let z : at ≡ at + 0 = omega arith in
+      elsewhere (t5 t at a b c d e f (omega arith)) i 5 f j (omega arith) n ∙ elsewhere (t4 t at a b c d e f (omega arith)) i 4 e j (omega arith) n
+      ∙ elsewhere (t3 t at a b c d e f (omega arith)) i 3 d j (omega arith) n ∙ elsewhere (t2 t at a b c d e f (omega arith)) i 2 c j (omega arith) n
+      ∙ elsewhere (t1 t at a b c d e f (omega arith)) i 1 b j (omega arith) n ∙ ap (λ (k : ℕ). pictureAt (set t k a) j) z ∙ elsewhere t i 0 a j (omega arith) n
+
+  pub puts-words : Puts i (record { serial = aSerial a; surface = aSurface b; poc = toZ w32 c; mark = markOf d; waiting = flagOf e; count = f }) t now6
+  unfolding pictureAt
+  puts-words =
+      let r : 6 * i + 6 ≤ length t = omega arith in
+      record {
+        at = rw (word0 t (6 * i) a b c d e f r, word1 t (6 * i) a b c d e f r, word2 t (6 * i) a b c d e f r, word3 t (6 * i) a b c d e f r, word4 t (6 * i) a b c d e f r, word5 t (6 * i) a b c d e f r);
+        others = others6;
+        count = beyond t (6 * i) a b c d e f r 96 (omega arith);
+      }
+
+-- one word of place i
+module _ (t : List ℕ) (i v : ℕ) (room : 97 ≤ length t) (lt : i < 16) where
+  kept : (f g : ℕ) → (g ≡ f → ⊥) → word (set t (6 * i + f) v) (6 * i + g) ≡ word t (6 * i + g)
+  kept f g n = off t (6 * i + f) (6 * i + g) v (λ e. n (omega arith))
+
+  serial-kept : (f : ℕ) → 0 < f → word (set t (6 * i + f) v) (6 * i) ≡ word t (6 * i)
+  serial-kept f lf = off t (6 * i + f) (6 * i) v (λ e. omega arith)
+
+  written : (f : ℕ) → f < 6 → word (set t (6 * i + f) v) (6 * i + f) ≡ v
+  written f lf = getD-set-same t (6 * i + f) v 0 (omega arith)
+
+  module _ (f : ℕ) (lf : f < 6) where
+    pub puts-one : (p : Picture) → pictureAt (set t (6 * i + f) v) i ≡ p → Puts i p t (set t (6 * i + f) v)
+    puts-one p e = record { at = e; others = λ j n. elsewhere t i f v j lf n; count = off t (6 * i + f) 96 v (λ x. omega arith) }
+
+  pub puts-mark : (m : Mark) → v ≡ markWord m → Puts i (marked m (pictureAt t i)) t (set t (6 * i + 3) v)
+  unfolding pictureAt
+  puts-mark m e =
+      puts-one 3 (omega arith) (marked m (pictureAt t i))
+      (rw (serial-kept 3 (omega arith), kept 3 1 (λ x. omega arith), kept 3 2 (λ x. omega arith), written 3 (omega arith), kept 3 4 (λ x. omega arith), kept 3 5 (λ x. omega arith), e, mark-back m))
+
+  pub puts-count : Puts i (recounted v (pictureAt t i)) t (set t (6 * i + 5) v)
+  unfolding pictureAt
+  puts-count =
+      puts-one 5 (omega arith) (recounted v (pictureAt t i))
+      (rw (serial-kept 5 (omega arith), kept 5 1 (λ x. omega arith), kept 5 2 (λ x. omega arith), kept 5 3 (λ x. omega arith), kept 5 4 (λ x. omega arith), written 5 (omega arith)))
+
+pub puts-quiet : (t : List ℕ) (i : ℕ) → 97 ≤ length t → i < 16 → Puts i (quieted (pictureAt t i)) t (set t (6 * i + 4) 0)
+unfolding pictureAt
+puts-quiet t i room lt =
+    puts-one t i 0 room lt 4 (omega arith) (quieted (pictureAt t i))
+    (rw (serial-kept t i 0 room lt 4 (omega arith), kept t i 0 room lt 4 1 (λ x. omega arith), kept t i 0 room lt 4 2 (λ x. omega arith), kept t i 0 room lt 4 3 (λ x. omega arith), written t i 0 room lt 4 (omega arith), kept t i 0 room lt 4 5 (λ x. omega arith)))
+
+-- a picture's own words
+pub own-words : (p : Picture) → SFits w32 (p .poc)
+    → _≡_ {A = Picture} (record { serial = aSerial (p .serial .0); surface = aSurface (p .surface .0); poc = toZ w32 (ofZ w32 (p .poc)); mark = markOf (markWord (p .mark)); waiting = flagOf (flagWord (p .waiting)); count = p .count }) p
+own-words p f =
+    λ i. record { serial = p .serial; surface = p .surface; poc = toZ-ofZ w32 (p .poc) f i; mark = mark-back (p .mark) i; waiting = flag-back (p .waiting) i; count = p .count }
+
+-- the lesser of the capacity and 16 is compared
+pub full-is : (k r n : ℕ) → r ≤ 16 → r ≡ n → (leb k r || leb 16 r) ≡ leb (min k 16) n
+full-is k r n le e =
+    split (leb k r)
+    (λ a. let x : k ≤ r = leb-true k r a in rw a (sym (le-leb (min k 16) n (omega (arith, e)))))
+    (λ a. split (leb 16 r) (λ b. let y : 16 ≤ r = leb-true 16 r b in rw (a, b) (sym (le-leb (min k 16) n (omega (arith, e)))))
+    (λ b. let x : r < k = leb-false k r a in let y : r < 16 = leb-false 16 r b in rw (a, b) (sym (lt-leb (min k 16) n (omega (arith, e))))))

@@ -1,0 +1,74 @@
+-- A store in lent words: sixteen places of six words, and behind them how many are used. Any words are some store: a length over 16 counts as 16, a flag is
+-- on unless its word is 0, and a mark that is no number of one is none.
+use Prim.Native.Nat.{ℕ, _+_, _*_, min}
+use mathlib.Core.Path.{_≡_}
+use mathlib.Core.Bool.{Bool, true, false, cond, not}
+use mathlib.Core.List.{List, map}
+use lib.ListN.{getD}
+use lib.Dec.{eqb}
+use lib.IntN.{pos}
+use mir.Syntax.{w32}
+use mir.Val.{toZ}
+use Rattle.paper.specs.Words.{table}
+use Rattle.paper.specs.Numbers.{aSerial, aSurface}
+use Rattle.paper.specs.declared.Mark.{Mark}
+use Rattle.paper.specs.declared.Mark.the-variants.{Unmarked, ShortTerm, LongTerm}
+use Rattle.paper.specs.declared.Picture.{Picture}
+
+abbrev pub word : List ℕ → ℕ → ℕ
+word t i = getD t i 0
+
+abbrev pub flagOf : ℕ → Bool
+flagOf x = not (eqb x 0)
+
+abbrev pub flagWord : Bool → ℕ
+flagWord b = cond b 1 0
+
+abbrev pub markOf : ℕ → Mark
+markOf x = cond (eqb x 1) ShortTerm (cond (eqb x 2) LongTerm Unmarked)
+
+abbrev pub markWord : Mark → ℕ
+markWord Unmarked = 0
+markWord ShortTerm = 1
+markWord LongTerm = 2
+
+-- the picture at place i
+unfoldable pub pictureAt : List ℕ → ℕ → Picture
+pictureAt t i =
+    record {
+      serial = aSerial (word t (6 * i));
+      surface = aSurface (word t (6 * i + 1));
+      poc = toZ w32 (word t (6 * i + 2));
+      mark = markOf (word t (6 * i + 3));
+      waiting = flagOf (word t (6 * i + 4));
+      count = word t (6 * i + 5);
+    }
+
+-- those at the first n places
+abbrev pub pictures : List ℕ → ℕ → List Picture
+pictures t n = table (pictureAt t) n
+
+abbrev pub countIn : List ℕ → ℕ
+countIn t = min (word t 96) 16
+
+-- the stored pictures, in the order they came
+abbrev pub stored : List ℕ → List Picture
+stored t = pictures t (countIn t)
+
+-- p is at place i now; all else is as it was
+pub record Puts (i : ℕ) (p : Picture) (before after : List ℕ) : Type 0 where
+  pub at : pictureAt after i ≡ p
+  pub others : (j : ℕ) → (j ≡ i → ⊥) → pictureAt after j ≡ pictureAt before j
+  pub count : word after 96 ≡ word before 96
+
+-- each stored picture changed where it stands
+pub record Changes (g : Picture → Picture) (before after : List ℕ) : Type 0 where
+  pub pics : stored after ≡ map g (stored before)
+  pub count : word after 96 ≡ word before 96
+
+-- "it no longer waits", and a count
+abbrev pub quieted : Picture → Picture
+quieted p = record { serial = p .serial; surface = p .surface; poc = p .poc; mark = p .mark; waiting = false; count = p .count }
+
+abbrev pub recounted : ℕ → Picture → Picture
+recounted n p = record { serial = p .serial; surface = p .surface; poc = p .poc; mark = p .mark; waiting = p .waiting; count = n }
