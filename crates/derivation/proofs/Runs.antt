@@ -16,7 +16,7 @@ use Rattle.paper.specs.Words.{table, anyB}
 use Rattle.paper.specs.Numbers.{missing, aSerial}
 use Rattle.paper.specs.State as State
 use Rattle.paper.specs.RefLists.{ownOf, candidates0, candidates1, placed}
-use Rattle.arrays.proofs.Pad.{at-cons, at-end}
+use Rattle.paper.proofs.Places.{at-cons, at-end}
 use Rattle.derivation.specs.declared.rows.Refs.{Refs}
 use Rattle.derivation.specs.Lists.{refsIn, serialsIn, candidatesOf, swappedAt, placeIn, askOf, CandidateCount}
 

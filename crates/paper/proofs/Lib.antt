@@ -1,5 +1,6 @@
 pub mod Whole
 pub mod Bools
+pub mod Places
 pub mod Events
 pub mod Every
 pub mod Apart

@@ -14,8 +14,8 @@ use crate::Tally;
 use crate::bumping::Rule;
 use crate::bumping::bump_as_needed;
 use crate::changing::raise_counts;
-use crate::leaving::keep_used;
 use crate::leaving::release;
+use crate::leaving::remove_unused;
 use crate::leaving::throw;
 use crate::places::count_released;
 use crate::places::count_thrown;
@@ -106,7 +106,7 @@ fn empty_out(
 }
 
 // The store is cleared: those that wait are thrown away, all are released, behind what the tail has so far.
-fn clear_after(
+fn clear(
     t: &mut [u32; Store::WORDS],
     c: Tally,
     thrown: &mut [u32; Store::THROWN],
@@ -137,7 +137,7 @@ fn make_room(
 {
     let n = used_places(t);
     let freed = release(t, n, false, released, 0);
-    let k = keep_used(t, n);
+    let k = remove_unused(t, n);
     let c = Tally {
         stored: k,
         handed: 0,
@@ -167,7 +167,7 @@ pub fn update_dpb_before_decoding(
     }
     let c = nothing_yet(used_places(t));
     if no_prior {
-        clear_after(t, c, thrown, released)
+        clear(t, c, thrown, released)
     } else {
         empty_out(t, c, handed, released)
     }
@@ -245,7 +245,7 @@ pub fn discard(
 {
     let n = used_places(t);
     match x {
-        Now::Idle => clear_after(t, nothing_yet(n), thrown, released),
+        Now::Idle => clear(t, nothing_yet(n), thrown, released),
         Now::Is(c) => {
             let d = drop_current(c, thrown, released);
             let e = Tally {
@@ -254,7 +254,7 @@ pub fn discard(
                 thrown: d.thrown,
                 released: d.released,
             };
-            clear_after(t, e, thrown, released)
+            clear(t, e, thrown, released)
         }
     }
 }

@@ -47,7 +47,7 @@ fn is_used(p: Picture) -> bool
 }
 
 // The pictures that neither wait nor are marked leave, of the first n. Answers how many are left.
-pub(crate) fn keep_used(t: &mut [u32; Store::WORDS], n: usize) -> usize
+pub(crate) fn remove_unused(t: &mut [u32; Store::WORDS], n: usize) -> usize
     requires { ⌜ n ≤ 16 ⌝ }
     ensures few { λ r. ⌜ r ≤ n ⌝ }
     ensures left { λ r. ⌜ pictures (now (t .exit)) r ≡ keep inUse (pictures (now (t .entry)) n) ⌝ }

@@ -1,3 +1,4 @@
+pub mod Pad
 pub mod Walks
 pub mod Pocs
 pub mod Bytes

@@ -7,7 +7,7 @@ use native.Mathlib.Omega.{arith}
 use lib.Dec.{eqb}
 use lib.ListN.{length, drop}
 use borrow.Author.Tests.{eqb-false}
-use Rattle.arrays.proofs.Pad.{at-end}
+use Rattle.paper.proofs.Places.{at-end}
 use Rattle.paper.proofs.Bools.{split, not-both, or-left, or-right}
 use Rattle.framing.specs.Cut.{sizeOf}
 

@@ -1,3 +1,4 @@
+pub mod Pad
 pub mod Book
 pub mod Walks
 pub mod Events

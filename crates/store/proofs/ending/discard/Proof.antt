@@ -22,8 +22,8 @@ enum-told c = search needs
 nothing-yet-requires : tie.Need-nothing-yet-requires
 nothing-yet-requires c κs = search needs
 
-clear-after-requires : tie.Need-clear-after-requires
-clear-after-requires c κs = let n = c .before .before .before .before .before .before .used-places in rw (c .before .before .nothing-yet .ensures) (n .ensures .1, omega arith, omega arith)
+clear-requires : tie.Need-clear-requires
+clear-requires c κs = let n = c .before .before .before .before .before .before .used-places in rw (c .before .before .nothing-yet .ensures) (n .ensures .1, omega arith, omega arith)
 
 enum-known-x : tie.Need-enum-known-x
 enum-known-x c = search needs
@@ -31,15 +31,15 @@ enum-known-x c = search needs
 drop-current-requires : tie.Need-drop-current-requires
 drop-current-requires c κs = search needs
 
-clear-after-requires-2 : tie.Need-clear-after-requires-2
-clear-after-requires-2 c κs = search needs
+clear-requires-2 : tie.Need-clear-requires-2
+clear-requires-2 c κs = search needs
 
 returns : tie.Need-returns
 returns c =
     let a = c .before .before .before .before .before .before .before .before .before .args in
     let n = c .before .before .before .before .before .before .before .used-places in
     let o = c .before .before .before .nothing-yet in
-    let e = c .clear-after in
+    let e = c .clear in
     let ps = stored (now (a .t)) in
     let w = ap (λ (x : Now). discarded ps x) (c .before .before .before .before .before .enum-told .given .1) ∙ discard-idle ps in
     λ hs.
@@ -53,7 +53,7 @@ returns-2 c =
     let n = c .before .before .before .before .before .before .before .before .before .before .used-places in
     let x = c .before .before .before .before .before .before .before .before .x .given in
     let d = c .before .before .before .before .drop-current in
-    let e = c .clear-after2 in
+    let e = c .clear2 in
     let ps = stored (now (a .t)) in
     let w = ap (λ (y : Now). discarded ps y) (x .1) ∙ discard-is ps (x .0 .0) in
     λ hs.
@@ -69,9 +69,9 @@ discard-spec =
     used-places-requires
     enum-told
     nothing-yet-requires
-    clear-after-requires
+    clear-requires
     enum-known-x
     drop-current-requires
-    clear-after-requires-2
+    clear-requires-2
     returns
     returns-2)

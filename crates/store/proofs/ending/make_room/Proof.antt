@@ -11,8 +11,8 @@ used-places-requires c κs = search needs
 release-requires : tie.Need-release-requires
 release-requires c κs = search needs
 
-keep-used-requires : tie.Need-keep-used-requires
-keep-used-requires c κs = search needs
+remove-unused-requires : tie.Need-remove-unused-requires
+remove-unused-requires c κs = search needs
 
 bump-as-needed-requires : tie.Need-bump-as-needed-requires
 bump-as-needed-requires c κs = search needs
@@ -25,7 +25,7 @@ returns c =
     let a = c .before .before .before .before .before .before .before .before .before .before .before .before .before .args in
     let n = c .before .before .before .before .before .before .before .before .before .before .before .used-places in
     let f = c .before .before .before .before .before .before .before .before .release in
-    let k = c .before .before .before .before .before .before .keep-used in
+    let k = c .before .before .before .before .before .before .remove-unused in
     let u = c .before .before .bump-as-needed in
     makes-room (a .l) (now (a .t)) (k .last .0) (now (a .handed)) (now (a .released)) (f .last .1 .1 .1 .0) (n .result) (k .result) (f .result) (u .last .0) (u .last .1 .1 .1 .0) (u .last .1 .1 .1 .1 .0) (c .set-used .last .0) (u .result) (n .ensures .0)
     (f .ensures .1) (k .ensures .1) (u .ensures) (c .set-used .ensures)
@@ -36,7 +36,7 @@ make-room-spec =
     (tie.spec
     used-places-requires
     release-requires
-    keep-used-requires
+    remove-unused-requires
     bump-as-needed-requires
     set-used-requires
     returns)

@@ -27,8 +27,8 @@ used-places-requires c κs = search needs
 nothing-yet-requires : tie.Need-nothing-yet-requires
 nothing-yet-requires c κs = search needs
 
-clear-after-requires : tie.Need-clear-after-requires
-clear-after-requires c κs = rw (c .before .before .before .before .nothing-yet .ensures) (c .before .before .before .before .before .used-places .ensures .1, omega arith, omega arith)
+clear-requires : tie.Need-clear-requires
+clear-requires c κs = rw (c .before .before .before .before .nothing-yet .ensures) (c .before .before .before .before .before .used-places .ensures .1, omega arith, omega arith)
 
 empty-out-requires : tie.Need-empty-out-requires
 empty-out-requires c κs = rw (c .before .before .before .before .nothing-yet .ensures) (c .before .before .before .before .before .used-places .ensures .1, omega arith, omega arith, refl)
@@ -38,7 +38,7 @@ returns-2 c =
     let a = c .before .before .before .before .before .before .before .before .before .args in
     let n = c .before .before .before .before .before .before .used-places in
     let o = c .before .before .before .before .before .nothing-yet in
-    let e = c .clear-after in
+    let e = c .clear in
     let ps = stored (now (a .t)) in
     let s : a .starts ≡ true = sym (Bool·not-not (a .starts)) ∙ ap not (c .before .before .before .before .before .before .before .before .if1 .left) in
     ends cleared (still ps) (beforeDecoding (a .starts) (a .no-prior) (a .l) ps) (movedIn (now (a .t)) (now (a .handed)) (now (a .thrown)) (now (a .released)) (o .result)) (e .last .0) (now (a .handed)) (e .last .1 .1 .0) (e .last .1 .1 .1 .0) (e .result)
@@ -67,7 +67,7 @@ update-dpb-before-decoding-spec =
     returns
     used-places-requires
     nothing-yet-requires
-    clear-after-requires
+    clear-requires
     empty-out-requires
     returns-2
     returns-3)

@@ -7,8 +7,8 @@ use borrow.Author.Needs.{needs}
 use Rattle.paper.specs.Output.{inUse}
 use Rattle.store.specs.Shelf.{pictureAt}
 use Rattle.store.proofs.Kept.{Kept, kept-none, kept-take, kept-pass}
-use Rattle.store.proofs.leaving.keep_used.Statement.{statement}
-use Rattle.store.proofs.leaving.keep_used.Tie as tie
+use Rattle.store.proofs.leaving.remove_unused.Statement.{statement}
+use Rattle.store.proofs.leaving.remove_unused.Tie as tie
 
 abbrev Inv-loop : tie.InvT-loop
 Inv-loop t₀ n k₀ i₀ t k i = (i ≤ n) × Kept inUse t₀ t k i
@@ -51,8 +51,8 @@ returns c =
     let h = rw e at (c .before .loop .inv .1) in
     (h .few, h .pics)
 
-pub keep-used-spec : {M : Type 1} → statement M
-keep-used-spec =
+pub remove-unused-spec : {M : Type 1} → statement M
+remove-unused-spec =
     tie.close
     (tie.spec
     Inv-loop

@@ -2,8 +2,8 @@
 use denote.Ref.{now}
 use Rattle.store.proofs.Ends.{clears}
 use borrow.Author.Needs.{needs}
-use Rattle.store.proofs.ending.clear_after.Statement.{statement}
-use Rattle.store.proofs.ending.clear_after.Tie as tie
+use Rattle.store.proofs.ending.clear.Statement.{statement}
+use Rattle.store.proofs.ending.clear.Tie as tie
 
 throw-requires : tie.Need-throw-requires
 throw-requires c κs = search needs
@@ -21,5 +21,5 @@ returns c =
     let f = c .before .before .release in
     clears (now (a .t)) (now (a .thrown)) (now (a .released)) (g .last .1 .1 .0) (f .last .1 .1 .1 .0) (c .set-used .last .0) (a .c) (g .result) (f .result) (g .ensures .1) (f .ensures .1) (c .set-used .ensures)
 
-pub clear-after-spec : {M : Type 1} → statement M
-clear-after-spec = tie.close (tie.spec throw-requires release-requires set-used-requires returns)
+pub clear-spec : {M : Type 1} → statement M
+clear-spec = tie.close (tie.spec throw-requires release-requires set-used-requires returns)

@@ -1,1 +1,0 @@
-// A list kept in an array of fixed size with a length beside it: definitions and laws, and no function.
