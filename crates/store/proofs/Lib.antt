@@ -13,3 +13,4 @@ pub mod Moves
 pub mod Scans
 pub mod Rounds
 pub mod Ends
+pub mod Whole
