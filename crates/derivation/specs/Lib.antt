@@ -1,3 +1,4 @@
+pub mod Pad
 pub mod Classes
 pub mod Answers
 pub mod Heads

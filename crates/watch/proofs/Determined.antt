@@ -6,8 +6,8 @@ use mathlib.Core.List.{List, [], _∷_}
 use native.Mathlib.Omega.{arith}
 use lib.Dec.{eqb}
 use borrow.Author.Tests.{eqb-true, eqb-false}
-use Rattle.watch.specs.Pad.{Padded, used}
-use Rattle.watch.proofs.Pad.{is-view}
+use Rattle.derivation.specs.Pad.{Padded, used}
+use Rattle.derivation.proofs.Pad.{is-view}
 use Rattle.paper.specs.Ledger.{Ledger, blank, hear, readReply}
 use Rattle.paper.specs.Watch.{partOf}
 use Rattle.paper.specs.declared.Line.{Line}

@@ -6,7 +6,7 @@ use mathlib.Core.List.{List, []}
 use native.Mathlib.Omega.{arith}
 use lib.Dec.{eqb}
 use borrow.Author.Tests.{ne-eqb}
-use Rattle.watch.proofs.Pad.{is-view, is-good}
+use Rattle.derivation.proofs.Pad.{is-view, is-good}
 use Rattle.paper.specs.Words.{first}
 use Rattle.paper.specs.Replies.{Reply}
 use Rattle.paper.specs.WholeReply.{wholeReply}

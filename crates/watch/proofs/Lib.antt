@@ -1,4 +1,3 @@
-pub mod Pad
 pub mod Walks
 pub mod Pocs
 pub mod Bytes

@@ -7,7 +7,7 @@ use native.Mathlib.Omega.{arith}
 use lib.ListN.{drop}
 use lib.Dec.{eqb}
 use borrow.Author.Tests.{ne-eqb, eqb-true, eqb-false}
-use Rattle.watch.proofs.Pad.{is-view}
+use Rattle.derivation.proofs.Pad.{is-view}
 use Rattle.paper.specs.Words.{first, anyB, allB}
 use Rattle.paper.specs.Numbers.{u8}
 use Rattle.paper.specs.Ledger.{Event, Hand, Throw, Free, waits, waitsAs, lies, quietAt, upon, uponAll}

@@ -8,9 +8,9 @@ use native.Mathlib.Omega.{arith}
 use lib.ListN.{length, take, drop, getD, length-take, length-map}
 use lib.Seq.{getD-take}
 use mathlib.Core.Path.{sym}
-use Rattle.watch.specs.Pad.{used}
+use Rattle.derivation.specs.Pad.{used}
 use Rattle.paper.proofs.Places.{take-more, at-cons, at-end}
-use Rattle.watch.proofs.Pad.{is-view}
+use Rattle.derivation.proofs.Pad.{is-view}
 use Rattle.paper.specs.Words.{keep, anyB}
 use Rattle.paper.specs.declared.Line.{Line}
 use Rattle.watch.specs.Book.{view, noLine, Holds}

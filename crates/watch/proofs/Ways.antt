@@ -7,7 +7,7 @@ use native.Mathlib.Omega.{arith}
 use lib.ListN.{length, drop, length-map, length-append}
 use lib.Dec.{eqb, ltb}
 use borrow.Author.Tests.{eq-eqb, ne-eqb, lt-ltb, le-ltb}
-use Rattle.watch.proofs.Pad.{is-view, is-good}
+use Rattle.derivation.proofs.Pad.{is-view, is-good}
 use Rattle.paper.specs.Words.{first, anyB, keep}
 use Rattle.paper.specs.Numbers.{u8, u16, u32}
 use Rattle.paper.specs.Sets.{inOrder}

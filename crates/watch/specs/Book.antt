@@ -5,7 +5,7 @@ use mathlib.Core.List.{List, [], _∷_}
 use Prim.Native.Nat.{ℕ, _+_, _≤_, min}
 use lib.ListN.{length}
 use lib.IntN.{pos}
-use Rattle.watch.specs.Pad.{Padded, used}
+use Rattle.derivation.specs.Pad.{Padded, used}
 use Rattle.paper.specs.declared.Line.{Line}
 use Rattle.paper.specs.Replies.{Reply}
 use Rattle.paper.specs.Ledger.{Ledger}

@@ -1,4 +1,3 @@
-pub mod Pad
 pub mod Book
 pub mod Walks
 pub mod Events

@@ -2,7 +2,7 @@
 use denote.Ref.{now}
 use native.Mathlib.Omega.{arith}
 use mathlib.Core.Path.{_≡_, _∙_, sym, refl}
-use Rattle.watch.proofs.Pad.{is-good, is-view}
+use Rattle.derivation.proofs.Pad.{is-good, is-view}
 use Rattle.watch.proofs.Bytes.{tail-events}
 use Rattle.watch.proofs.Parts.{tells-first, tells-then}
 use borrow.Author.Needs.{needs}

@@ -5,7 +5,7 @@ use native.Mathlib.Omega.{arith}
 use Prim.Native.Nat.{_-_, _<_, _≤_}
 use lib.ListN.{length, take}
 use lib.Seq.{take-all}
-use Rattle.watch.proofs.Pad.{is-good}
+use Rattle.derivation.proofs.Pad.{is-good}
 use Rattle.watch.proofs.Walks.{map-turn}
 use Rattle.watch.specs.Book.{Holds, view}
 use Rattle.watch.specs.Walks.{changing}

@@ -3,7 +3,7 @@ use native.Mathlib.Omega.{arith}
 use Prim.Native.Nat.{_-_, _<_, _≤_}
 use lib.ListN.{length, length-take, take}
 use lib.Seq.{take-all}
-use Rattle.watch.proofs.Pad.{is-good, is-view}
+use Rattle.derivation.proofs.Pad.{is-good, is-view}
 use Rattle.paper.specs.Words.{keep}
 use Rattle.paper.specs.Ledger.{free}
 use Rattle.watch.proofs.Walks.{get, keep-more, keep-short}

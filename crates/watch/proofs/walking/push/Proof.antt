@@ -1,6 +1,6 @@
 -- The new line stands in the first place behind the used ones, which was noLine.
 use borrow.Author.Needs.{needs}
-use Rattle.watch.proofs.Pad.{is-push}
+use Rattle.derivation.proofs.Pad.{is-push}
 use Rattle.watch.proofs.walking.push.Statement.{statement}
 use Rattle.watch.proofs.walking.push.Tie as tie
 

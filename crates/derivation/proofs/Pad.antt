@@ -5,7 +5,7 @@ use Prim.Native.Nat.{ℕ, suc, _+_, _-_, _<_}
 use native.Mathlib.Omega.{arith}
 use lib.ListN.{length, take, set, replicate, length-append}
 use lib.Seq.{take-append-seam, set-append-seam}
-use Rattle.watch.specs.Pad.{pad, Padded, used}
+use Rattle.derivation.specs.Pad.{pad, Padded, used}
 
 module _ {A : Type 0} (n : ℕ) (d : A) where
   take-pad : (l : List A) → take (length l) (pad n d l) ≡ l
