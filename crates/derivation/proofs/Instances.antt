@@ -1,9 +1,11 @@
 -- The paper's two lists are the one list that the code builds, since they differ in candidates and last place alone.
-use mathlib.Core.Path.{_≡_, refl, sym, _∙_}
+use mathlib.Core.Path.{_≡_, refl}
 use mathlib.Core.List.{List}
 use Prim.Native.Nat.{ℕ, _<_, _≤_}
 use lib.Dec.{leb}
 use Rattle.paper.specs.Words.{anyB}
+use Rattle.derivation.specs.declared.rows.RefList.{RefList}
+use Rattle.derivation.proofs.Pad.{one-array}
 use Rattle.derivation.proofs.Runs.{count-is}
 use mathlib.Core.Bool.{Bool, true, false}
 use lib.ListN.{length}
@@ -11,7 +13,7 @@ use Rattle.paper.specs.declared.Serial.{Serial}
 use Rattle.paper.specs.State as State
 use Rattle.paper.specs.Records.{Slice}
 use Rattle.paper.specs.RefLists.{list0, list1, lastIsOwn, candidates0, candidates1}
-use Rattle.derivation.specs.Lists.{listOf, candidatesOf, refsIn, serialsIn, CandidateCount, Ready}
+use Rattle.derivation.specs.Lists.{listOf, candidatesOf, refsIn, CandidateCount, Ready, HoldsList}
 
 module _ (x : State.Refs) (c : Serial) (f : Slice) where
   pub list0-is : f .ask0 .uses ≡ true → list0 x c f ≡ listOf x c (f .own) false (lastIsOwn f (candidates0 x (f .own) c)) (f .ask0 .active) (f .ask0 .modify) (f .ask0 .entries)
@@ -49,6 +51,6 @@ ready second c active modify es k some least most bytes below =
       below = λ t. rw (← e) (below t);
     }
 
--- a list leaves no choice of the serial numbers in its places
-pub one-list : (xs ys : List ℕ) (n : ℕ) (l : List Serial) → serialsIn xs n ≡ l → serialsIn ys n ≡ l → serialsIn xs n ≡ serialsIn ys n
-one-list xs ys n l h k = h ∙ sym k
+-- a list in an array leaves no choice
+pub one-list : (l r : RefList) (xs : List Serial) → HoldsList l xs → HoldsList r xs → l ≡ r
+one-list l r xs h k = let e = one-array h k in λ i. record { items = e .0 i; len = e .1 i }

@@ -9,8 +9,8 @@ use native.Mathlib.Omega.{arith}
 use native.Mathlib.Numerals.{add-one}
 use lib.Dec.{ltb, leb}
 use borrow.Author.Tests.{ltb-true, ltb-false, leb-false}
-use lib.ListN.{length, getD, take, drop, set, length-append, length-take, length-drop, length-set, length-map, take-append-drop, List·getD-append, List·getD-eq-default, List·getD-map}
-use lib.Seq.{take-add, take-at, drop-at, take-suc, take-length, take-suc-set, take-set-lt, getD-take, getD-append-add}
+use lib.ListN.{length, getD, take, drop, set, replicate, length-append, length-take, length-drop, length-map, take-append-drop, List·getD-append, List·getD-eq-default, List·getD-map}
+use lib.Seq.{take-add, take-at, drop-at, take-suc, take-length, getD-take, getD-append-add}
 use Rattle.paper.specs.declared.Serial.{Serial}
 use Rattle.paper.specs.Words.{table, anyB}
 use Rattle.paper.specs.Numbers.{missing, aSerial}
@@ -18,7 +18,10 @@ use Rattle.paper.specs.State as State
 use Rattle.paper.specs.RefLists.{ownOf, candidates0, candidates1, placed}
 use Rattle.paper.proofs.Places.{at-cons, at-end}
 use Rattle.derivation.specs.declared.rows.Refs.{Refs}
-use Rattle.derivation.specs.Lists.{refsIn, serialsIn, candidatesOf, swappedAt, placeIn, askOf, CandidateCount}
+use Rattle.derivation.specs.declared.rows.RefList.{RefList}
+use Rattle.derivation.specs.Pad.{Padded}
+use Rattle.derivation.specs.Lists.{refsIn, blankSerial, HoldsList, candidatesOf, swappedAt, placeIn, askOf, CandidateCount}
+use Rattle.derivation.proofs.Pad.{is-push, is-set}
 
 -- ---- how long each set is
 module _ (xs : List ℕ) (r : Refs) (h : length xs ≡ 16) where
@@ -140,12 +143,13 @@ unfolding table
 table-ext zero f g e = refl
 table-ext (suc n) f g e = ap₂ (λ (l : List _) (x : _). l ++ (x ∷ [])) (table-ext n f g e) (e n)
 
-table-map : {A : Type 0} (g : ℕ → A) (es : List ℕ) (n : ℕ) → n ≤ length es → table (λ (j : ℕ). g (getD es j 0)) n ≡ map g (take n es)
+-- the first elements of a list, each through g, one by one
+pub table-front : {A B : Type 0} (g : A → B) (d : A) (l : List A) (n : ℕ) → n ≤ length l → table (λ (j : ℕ). g (getD l j d)) n ≡ map g (take n l)
 unfolding table
-table-map g es zero h = refl
-table-map g es (suc n) h =
-    let k : n ≤ length es = omega arith in
-    rw (table-map g es n k, take-suc es n 0 h, map-append g (take n es) (getD es n 0 ∷ []))
+table-front g d l zero h = refl
+table-front g d l (suc n) h =
+    let k : n ≤ length l = omega arith in
+    rw (table-front g d l n k, take-suc l n d h, map-append g (take n l) (getD l n d ∷ []))
 
 map-entries : (cs : List Serial) (d e : Serial) (es : List ℕ) → anyB (λ (i : ℕ). leb (length cs) i) es ≡ false
     → map (λ (i : ℕ). getD cs i d) es ≡ map (λ (i : ℕ). getD cs i e) es
@@ -171,7 +175,7 @@ placed-is cs c false es n active e h bytes below =
     (λ j. let k : j % n < length cs = subst (λ (m : ℕ). j % n < m) e (mod-lt j h) in any-default cs (j % n) c missing k ∙ ap (λ (m : ℕ). getD cs (j % m) missing) e)
 placed-is cs c true es n active e h bytes below =
     rw (← bytes refl)
-    (table-map (λ (i : ℕ). getD cs i c) es (length es) (omega arith)
+    (table-front (λ (i : ℕ). getD cs i c) 0 es (length es) (omega arith)
     ∙ ap (map (λ (i : ℕ). getD cs i c)) (take-length es)
     ∙ map-entries cs c missing es (below refl))
 
@@ -195,31 +199,20 @@ unfolding candidatesOf
 count-is true c h = h .other c
 count-is false c h = h .first c
 
--- ---- serial numbers that are written one by one
-serials-are : (xs : List ℕ) (n : ℕ) → n ≤ length xs → serialsIn xs n ≡ map aSerial (take n xs)
-serials-are xs n h = table-map aSerial xs n h
-
-pub serials-none : (xs : List ℕ) (f : ℕ → Serial) → serialsIn xs 0 ≡ table f 0
+-- ---- a list that is filled place by place
+pub holds-none : (f : ℕ → Serial) → Padded 16 blankSerial (replicate 16 blankSerial) 0 (table f 0)
 unfolding table
-serials-none xs f = refl
+holds-none f = record { places = refl; long = refl; room = omega arith }
 
-pub serials-more : (xs : List ℕ) (f : ℕ → Serial) (j : ℕ) (s : Serial) → j < length xs → serialsIn xs j ≡ table f j → s ≡ f j → serialsIn (set xs j (s .0)) (j + 1) ≡ table f (j + 1)
+pub holds-more : (f : ℕ → Serial) {items : List Serial} (j : ℕ) (s : Serial) → Padded 16 blankSerial items j (table f j) → j < 16 → s ≡ f j → Padded 16 blankSerial (set items j s) (j + 1) (table f (j + 1))
 unfolding table
-serials-more xs f j s h e q =
-    let n : j + 1 ≤ length (set xs j (s .0)) = simp length-set (omega arith) in
-    serials-are (set xs j (s .0)) (j + 1) n
-    ∙ rw (add-one j, take-suc-set xs j (s .0) h, ← q, ← e) (map-append aSerial (take j xs) (s .0 ∷ []) ∙ ap (λ (l : List Serial). l ++ (s ∷ [])) (sym (serials-are xs j (omega arith))))
+holds-more f {items} j s h k e =
+    let q : table f j ++ (s ∷ []) ≡ table f (j + 1) = rw (add-one j, e) in
+    subst (Padded 16 blankSerial (set items j s) (j + 1)) q (is-push h s k)
 
-map-set : {A B : Type 0} (f : A → B) (l : List A) (i : ℕ) (a : A) → map f (set l i a) ≡ set (map f l) i (f a)
-map-set f [] i a = refl
-map-set f (x ∷ l) zero a = refl
-map-set f (x ∷ l) (suc i) a = ap (λ (m : List _). f x ∷ m) (map-set f l i a)
-
-pub serials-last : (xs : List ℕ) (l : List Serial) (n : ℕ) (s : Serial) → length xs ≡ 16 → 1 ≤ n → n ≤ 16 → serialsIn xs n ≡ l → serialsIn (set xs (n - 1) (s .0)) n ≡ set l (n - 1) s
-serials-last xs l n s h least most e =
-    let k : n ≤ length (set xs (n - 1) (s .0)) = simp length-set (omega arith) in
-    serials-are (set xs (n - 1) (s .0)) n k
-    ∙ rw (take-set-lt n xs (n - 1) (s .0) (omega arith), ← e, serials-are xs n (omega arith)) (map-set aSerial (take n xs) (n - 1) (s .0))
+-- the last place is written
+pub holds-last : (l : RefList) (xs : List Serial) (n : ℕ) (s : Serial) → HoldsList l xs → l .len ≡ n → 1 ≤ n → Padded 16 blankSerial (set (l .items) (l .len - 1) s) (l .len) (set xs (n - 1) s)
+holds-last l xs n s h e least = rw (← e) (is-set h (l .len - 1) s (omega arith))
 
 -- ---- a run that begins with three lists, with their lengths as its counts
 module _ {A B : Type 0} (f : A → B) where
@@ -240,14 +233,14 @@ parts-are ys b a l rest m n k e eb ea el =
     rw (e, eb, ea, el, take-at b (a ++ (l ++ rest)) (length b) refl, drop-at b (a ++ (l ++ rest)) (length b) refl, take-at a (l ++ rest) (length a) refl)
     (rw (s, drop-at (b ++ a) (l ++ rest) (length b + length a) (length-append b a), take-at l rest (length l) refl))
 
-pub refs-are : (xs : List ℕ) (r : Refs) (b a l : List Serial) → r .before + r .after + r .long ≤ length xs → serialsIn xs (r .before + r .after + r .long) ≡ b ++ (a ++ l)
+pub refs-are : (xs : List ℕ) (r : Refs) (b a l : List Serial) → r .before + r .after + r .long ≤ length xs → table (λ (i : ℕ). aSerial (getD xs i 0)) (r .before + r .after + r .long) ≡ b ++ (a ++ l)
     → r .before ≡ length b → r .after ≡ length a → r .long ≡ length l → refsIn xs r ≡ record { before = b; after = a; ltCurr = l }
 unfolding refsIn
 refs-are xs r b a l h e eb ea el =
     let n = r .before + r .after + r .long in
     let rest = map aSerial (drop n xs) in
     let w : map aSerial xs ≡ b ++ (a ++ (l ++ rest)) =
-    ap (map aSerial) (sym (take-append-drop n xs)) ∙ map-append aSerial (take n xs) (drop n xs) ∙ ap (λ (m : List Serial). m ++ rest) (sym (serials-are xs n h) ∙ e) ∙ simp append-assoc
+    ap (map aSerial) (sym (take-append-drop n xs)) ∙ map-append aSerial (take n xs) (drop n xs) ∙ ap (λ (m : List Serial). m ++ rest) (sym (table-front aSerial 0 xs n h) ∙ e) ∙ simp append-assoc
     in
     rw (take-map aSerial (r .before) xs, take-map aSerial (r .after) (drop (r .before) xs), drop-map aSerial (r .before) xs, take-map aSerial (r .long) (drop (r .before + r .after) xs), drop-map aSerial (r .before + r .after) xs)
     (parts-are (map aSerial xs) b a l rest (r .before) (r .after) (r .long) w eb ea el)

@@ -3,19 +3,20 @@ use Prim.Native.Nat.{ℕ, _+_, _-_, _≤_, _<_}
 use mathlib.Core.Path.{_≡_}
 use mathlib.Core.List.{List, map}
 use mathlib.Core.Bool.{Bool, true, false, cond}
-use lib.ListN.{length, take, drop, getD, set}
+use lib.ListN.{length, take, drop, getD, set, replicate}
 use lib.Dec.{ltb, leb}
 use Rattle.paper.specs.declared.Serial.{Serial}
-use Rattle.paper.specs.Words.{anyB, table}
+use Rattle.paper.specs.Words.{anyB}
 use Rattle.paper.specs.Numbers.{aSerial}
 use Rattle.paper.specs.State as State
 use Rattle.paper.specs.Records.{ListAsk}
 use Rattle.paper.specs.RefLists.{candidates0, candidates1, placed}
+use Rattle.derivation.specs.Pad.{Padded}
 use Rattle.derivation.specs.declared.rows.Refs.{Refs}
+use Rattle.derivation.specs.declared.rows.RefList.{RefList}
 
--- the first n serial numbers of a run
-abbrev pub serialsIn : List ℕ → ℕ → List Serial
-serialsIn xs n = table (λ (i : ℕ). aSerial (getD xs i 0)) n
+abbrev pub blankSerial : Serial
+blankSerial = record { 0 = 0 }
 
 -- one run: Before, After, LtCurr one behind the other; a count past the end of the run counts what is there
 unfoldable pub refsIn : List ℕ → Refs → State.Refs
@@ -25,6 +26,13 @@ refsIn xs r =
       after = map aSerial (take (r .after) (drop (r .before) xs));
       ltCurr = map aSerial (take (r .long) (drop (r .before + r .after) xs));
     }
+
+-- a list in its sixteen places
+abbrev pub HoldsList : RefList → List Serial → Type 0
+HoldsList l xs = Padded 16 blankSerial (l .items) (l .len) xs
+
+abbrev pub noList : RefList
+noList = record { items = replicate 16 blankSerial; len = 0 }
 
 -- the candidates of list 0, or of list 1 (`second`)
 unfoldable pub candidatesOf : State.Refs → Bool → Bool → Serial → List Serial

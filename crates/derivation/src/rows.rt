@@ -7,13 +7,19 @@ ghost use lib.ListN.{length, getD};
 ghost use lib.Dec.{ltb, leb};
 ghost use Rattle.paper.specs.Words.{anyB};
 ghost use Rattle.paper.specs.RefLists.{placed};
-ghost use Rattle.derivation.specs.Lists.{refsIn, serialsIn, StandsAt, askOf, CandidateCount, candidatesOf, listOf, Ready, swappedAt, placeIn};
+ghost use Rattle.derivation.specs.Lists.{refsIn, noList, HoldsList, StandsAt, askOf, CandidateCount, candidatesOf, listOf, Ready, swappedAt, placeIn};
 
 // The sizes of the sets that lists draw on, StCurrBefore, StCurrAfter and LtCurr. Their members lie one behind the other in a run of serial numbers.
 pub struct Refs {
     pub before: u8,
     pub after: u8,
     pub long: u8,
+}
+
+// A reference list.
+pub struct RefList {
+    pub items: [Serial; 16],
+    pub len: usize,
 }
 
 // How many serial numbers a run has. Its type says so of what is lent, and a proof is told it here.
@@ -139,8 +145,17 @@ fn which(modify: bool, entries: &[u8], j: usize, n: usize) -> usize
     j % n
 }
 
-// Writes the places of a list: "With n candidates, place j is candidate j mod n; with the modify bit it is the candidate at the entry byte".
-fn put_places(
+// A list with no place.
+pub fn no_list() -> RefList
+    ensures { λ r. ⌜ r ≡ noList ⌝ }
+{
+    let blank = Serial(0);
+    let items = [blank; 16];
+    RefList { items, len: 0 }
+}
+
+// The places of a list: "With n candidates, place j is candidate j mod n; with the modify bit it is the candidate at the entry byte".
+fn places(
     run: &[u32; 16],
     refs: Refs,
     c: Serial,
@@ -149,22 +164,22 @@ fn put_places(
     active: usize,
     modify: bool,
     entries: &[u8],
-    into: &mut [u32; 16],
-)
+) -> RefList
     requires { ⌜ Ready (refsIn (now run) refs) c own second active modify (now entries) ⌝ }
-    ensures { λ _. ⌜ serialsIn (now (into .exit)) active ≡ placed (candidatesOf (refsIn (now (run .entry)) refs) own second c) (askOf active modify (now (entries .entry))) ⌝ }
+    ensures { λ r. ⌜ HoldsList r (placed (candidatesOf (refsIn (now (run .entry)) refs) own second c) (askOf active modify (now (entries .entry)))) × (r .len ≡ active) ⌝ }
 {
-    count_run(*into);
     let n = candidate_count(run, refs, own);
+    let blank = Serial(0);
+    let mut items = [blank; 16];
     let mut j: usize = 0;
     while j < active {
-        let s = candidate(run, refs, second, c, which(modify, entries, j, n));
-        into[j] = s.0;
+        items[j] = candidate(run, refs, second, c, which(modify, entries, j, n));
         j += 1;
     }
+    RefList { items, len: active }
 }
 
-// Writes a reference list (8.3.4): list 0, or list 1 (`second`); `last`: it has the current picture in its last active place.
+// A reference list (8.3.4): list 0, or list 1 (`second`); `last`: it has the current picture in its last active place.
 pub fn build_ref_pic_list(
     run: &[u32; 16],
     refs: Refs,
@@ -175,15 +190,14 @@ pub fn build_ref_pic_list(
     active: u8,
     modify: bool,
     entries: &[u8],
-    into: &mut [u32; 16],
-)
+) -> RefList
     requires { ⌜ Ready (refsIn (now run) refs) c own second active modify (now entries) ⌝ }
-    ensures { λ _. ⌜ serialsIn (now (into .exit)) active ≡ listOf (refsIn (now (run .entry)) refs) c own second last active modify (now (entries .entry)) ⌝ }
+    ensures { λ r. ⌜ HoldsList r (listOf (refsIn (now (run .entry)) refs) c own second last active modify (now (entries .entry))) ⌝ }
 {
-    let n = active as usize;
-    put_places(run, refs, c, own, second, n, modify, entries, into);
+    let mut l = places(run, refs, c, own, second, active as usize, modify, entries);
     if last {
-        count_run(*into);
-        into[n - 1] = c.0;
+        let at = l.len - 1;
+        l.items[at] = c;
     }
+    l
 }

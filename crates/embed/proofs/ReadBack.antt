@@ -24,13 +24,14 @@ use Rattle.paper.specs.declared.Prev.the-variants as Prev
 use Rattle.paper.specs.declared.Now.{Now}
 use Rattle.paper.specs.declared.Now.the-variants as Now
 use Rattle.derivation.specs.declared.rows.Refs.{Refs}
-use Rattle.derivation.specs.Lists.{refsIn, serialsIn}
+use Rattle.derivation.specs.Lists.{refsIn}
 use Rattle.derivation.proofs.Runs.{refs-are}
 use Rattle.wire.proofs.Flat.{length-flat}
-use Rattle.store.specs.Shelf.{word, pictureAt, stored}
+use Rattle.store.specs.Shelf.{word, pictureAt, pictureWords, stored}
 use Rattle.store.proofs.Shelf.{flag-back, own-words}
 use Rattle.session.specs.View.{Front, frontIn, limitsAt, prevAt, nowAt, refsAt, sessionOf, sessionIn}
-use Rattle.embed.specs.Layout.{filled, pictureWords, placesOf, setsOf, limitsWords, prevWords, nowWords, sizeWords, headOf, memoryOf, LimitsFit, PrevFits, NowFits, PocsFit, Fitting}
+use Rattle.embed.specs.Layout.{filled, placesOf, setsOf, memoryOf, LimitsFit, PrevFits, NowFits, PocsFit, Fitting}
+use Rattle.session.specs.Laid.{limitsWords, prevWords, nowWords, sizeWords, headWords, sizesOf, frontOf, headOf}
 
 -- ---- lists by their elements
 
@@ -98,13 +99,10 @@ module _ (ps : List Picture) (room : length ps ≤ 16) (fits : PocsFit ps) where
 
 -- ---- the sets
 
-abbrev sizesOf : P.Refs → Refs
-sizesOf x = record { before = length (x .before); after = length (x .after); long = length (x .ltCurr) }
-
 members-count : (x : P.Refs) → length (x .before) + length (x .after) + length (x .ltCurr) ≡ length (allRefs x)
 members-count x = simp length-append
 
-serials-back : (n : ℕ) (xs : List Serial) → serialsIn (filled n (serialNos xs)) (length xs) ≡ xs
+serials-back : (n : ℕ) (xs : List Serial) → table (λ (i : ℕ). aSerial (getD (filled n (serialNos xs)) i 0)) (length xs) ≡ xs
 serials-back n xs =
     table-is (aSerial 0) (λ (i : ℕ). aSerial (getD (filled n (serialNos xs)) i 0)) xs (length xs) (omega arith)
     (λ i l. ap aSerial (List·getD-append (serialNos xs) (replicate (n - length (serialNos xs)) 0) 0 i (omega (arith, length-map xs (λ (x : Serial). x .0))) ∙ List·getD-map (λ (x : Serial). x .0) xs i (aSerial 0)))
@@ -114,7 +112,7 @@ pub sets-back : (x : P.Refs) → length (allRefs x) ≤ 16 → refsIn (setsOf x)
 sets-back x le =
     let n = members-count x in
     let m : length (setsOf x) ≡ 16 = filled-length 16 (serialNos (allRefs x)) (omega (arith, length-map (allRefs x) (λ (y : Serial). y .0))) in
-    refs-are (setsOf x) (sizesOf x) (x .before) (x .after) (x .ltCurr) (omega arith) (ap (serialsIn (setsOf x)) n ∙ serials-back 16 (allRefs x) ∙ append-assoc (x .before) (x .after) (x .ltCurr)) refl refl refl
+    refs-are (setsOf x) (sizesOf x) (x .before) (x .after) (x .ltCurr) (omega arith) (ap (table (λ (i : ℕ). aSerial (getD (setsOf x) i 0))) n ∙ serials-back 16 (allRefs x) ∙ append-assoc (x .before) (x .after) (x .ltCurr)) refl refl refl
 
 -- ---- the words beside them, each part where it stands: what comes before it does not matter
 
@@ -126,7 +124,7 @@ now-back : (n : Now) → NowFits n → nowAt (replicate 12 0 ++ nowWords n) ≡ 
 now-back Now.Idle f = refl
 now-back (Now.Is c) f = rw (toZ-ofZ w32 (c .poc) (f .poc), mod-eq-of-lt (f .lsb), toZ-ofZ w32 (c .msb) (f .msb), flag-back (c .output), flag-back (c .valid))
 
-sizes-back : (x : P.Refs) → length (allRefs x) ≤ 16 → refsAt (replicate 20 0 ++ sizeWords x) ≡ sizesOf x
+sizes-back : (x : P.Refs) → length (allRefs x) ≤ 16 → refsAt (replicate 20 0 ++ sizeWords (sizesOf x)) ≡ sizesOf x
 sizes-back x le =
     let n = members-count x in
     let b : length (x .before) < 256 = omega arith in
@@ -137,14 +135,9 @@ sizes-back x le =
 limits-back : (l : Limits) → LimitsFit l → limitsAt (replicate 4 0 ++ limitsWords l) ≡ l
 limits-back l f = rw (mod-eq-of-lt (f .k), mod-eq-of-lt (f .capacity), mod-eq-of-lt (f .buffering), mod-eq-of-lt (f .reorder), mod-eq-of-lt (f .latency))
 
--- what is read of the words of a session
-abbrev frontOf : P.Session → Front
-frontOf s =
-    record { configured = s .configured; limits = s .limits; current = s .current; refs = sizesOf (s .refs); prev = s .prev; start = s .atStart; ended = s .ended; next = s .next }
-
 module _ (s : P.Session) (f : Fitting s) where
   front-back : frontIn (headOf s) ≡ frontOf s
-  unfolding frontIn
+  unfolding frontIn headWords
   front-back =
       λ i.
       record {

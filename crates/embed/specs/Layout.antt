@@ -2,12 +2,11 @@
 use Prim.Native.Nat.{ℕ, _-_, _≤_, _<_}
 use mathlib.Core.List.{List, [], _∷_, _++_}
 use lib.ListN.{length, replicate}
-use lib.IntN.{ℤ}
 use mir.Syntax.{w32}
-use mir.Val.{SFits, ofZ}
+use mir.Val.{SFits}
 use Rattle.paper.specs.Words.{flat}
 use Rattle.paper.specs.Numbers.{serialNos}
-use Rattle.paper.specs.State.{allRefs, isCurrent, onNow}
+use Rattle.paper.specs.State.{allRefs}
 use Rattle.paper.specs.State as P
 use Rattle.paper.specs.declared.Picture.{Picture}
 use Rattle.paper.specs.declared.Limits.{Limits}
@@ -16,17 +15,15 @@ use Rattle.paper.specs.declared.Prev.the-variants as Prev
 use Rattle.paper.specs.declared.Current.{Current}
 use Rattle.paper.specs.declared.Now.{Now}
 use Rattle.paper.specs.declared.Now.the-variants as Now
-use Rattle.store.specs.Shelf.{markWord}
-use Rattle.session.specs.View.{Memory, memory, flagWord}
+use Rattle.store.specs.Shelf.{pictureWords}
+use Rattle.session.specs.View.{Memory, memory}
+use Rattle.session.specs.Laid.{headOf}
 
 -- zeros behind a run, up to n words
 abbrev pub filled : ℕ → List ℕ → List ℕ
 filled n xs = xs ++ replicate (n - length xs) 0
 
 -- ---- the store and the sets
-
-abbrev pub pictureWords : Picture → List ℕ
-pictureWords p = p .serial .0 ∷ p .surface .0 ∷ ofZ w32 (p .poc) ∷ markWord (p .mark) ∷ flagWord (p .waiting) ∷ p .count ∷ []
 
 -- sixteen places of six words, and behind them how many are used
 abbrev pub placesOf : List Picture → List ℕ
@@ -35,39 +32,6 @@ placesOf ps = filled 96 (flat pictureWords ps) ++ (length ps ∷ [])
 -- the members of the three sets, one set behind the other
 abbrev pub setsOf : P.Refs → List ℕ
 setsOf x = filled 16 (serialNos (allRefs x))
-
--- ---- the words beside them: four, then those of each part
-
-abbrev pub limitsWords : Limits → List ℕ
-limitsWords l = l .k ∷ l .capacity ∷ l .buffering ∷ l .reorder ∷ l .latency ∷ []
-
--- one number where no Tid0 picture was, another of the previous one's lsb and msb
-abbrev pub onPrev : Prev → ℕ → (ℕ → ℤ → ℕ) → ℕ
-onPrev Prev.Nothing x g = x
-onPrev (Prev.Tid0 lsb msb) x g = g lsb msb
-
-abbrev pub prevWords : Prev → List ℕ
-prevWords q = onPrev q 0 (λ lsb msb. 1) ∷ onPrev q 0 (λ lsb msb. lsb) ∷ onPrev q 0 (λ lsb msb. ofZ w32 msb) ∷ []
-
-abbrev pub nowWords : Now → List ℕ
-nowWords n =
-    flagWord (isCurrent n)
-    ∷ onNow n 0 (λ c. c .serial .0)
-    ∷ onNow n 0 (λ c. c .surface .0)
-    ∷ onNow n 0 (λ c. ofZ w32 (c .poc))
-    ∷ onNow n 0 (λ c. c .lsb)
-    ∷ onNow n 0 (λ c. ofZ w32 (c .msb))
-    ∷ onNow n 0 (λ c. flagWord (c .output))
-    ∷ onNow n 0 (λ c. flagWord (c .valid))
-    ∷ []
-
-abbrev pub sizeWords : P.Refs → List ℕ
-sizeWords x = length (x .before) ∷ length (x .after) ∷ length (x .ltCurr) ∷ []
-
-abbrev pub headOf : P.Session → List ℕ
-headOf s =
-    (flagWord (s .configured) ∷ flagWord (s .atStart) ∷ flagWord (s .ended) ∷ s .next ∷ [])
-    ++ limitsWords (s .limits) ++ prevWords (s .prev) ++ nowWords (s .current) ++ sizeWords (s .refs)
 
 -- the memory that stands for a session
 unfoldable pub memoryOf : P.Session → Memory

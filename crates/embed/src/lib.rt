@@ -2,8 +2,10 @@
 // words are taken as some session, so that no value of them does harm. A call changes them where they stand.
 ghost use mathlib.Core.Path.{_≡_};
 ghost use Prim.Native.Nat.{_*_};
+ghost use lib.ListN.{replicate};
 ghost use Rattle.paper.specs.State.{fresh as freshSession};
 ghost use Rattle.session.specs.View.{memory, sessionIn};
+ghost use Rattle.session.specs.Laid.{NormalMemory};
 ghost use Rattle.embed.specs.Lent.{words, Stepped};
 use session::HEAD;
 use store::Store;
@@ -23,7 +25,9 @@ pub extern "C" fn trusshemp_fresh_in(
     sets: &mut [u32; Store::CAPACITY],
     places: &mut [u32; Store::WORDS],
 )
-    ensures { λ _. ⌜ sessionIn (memory (now (head .exit)) (now (sets .exit)) (now (places .exit))) ≡ freshSession ⌝ }
+    ensures session { λ _. ⌜ sessionIn (memory (now (head .exit)) (now (sets .exit)) (now (places .exit))) ≡ freshSession ⌝ }
+    ensures normal { λ _. ⌜ NormalMemory (memory (now (head .exit)) (now (sets .exit)) (now (places .exit))) ⌝ }
+    ensures blank { λ _. ⌜ now (sets .exit) ≡ replicate 16 0 ⌝ }
 {
     session::fresh(head, sets, places);
 }

@@ -21,7 +21,7 @@ use Rattle.paper.specs.declared.Now.the-variants as Now
 use Rattle.paper.specs.Words.{table}
 use Rattle.paper.specs.Numbers.{serialNos, aSerial, flagAt}
 use Rattle.paper.specs.Flags.{validPrev}
-use Rattle.paper.specs.State.{Session, isCurrent, modulus}
+use Rattle.paper.specs.State.{Session, isCurrent, modulus, allRefs}
 use Rattle.paper.specs.Records.{Fields, fieldsOf}
 use Rattle.paper.specs.Ranges.{beginRanges}
 use Rattle.paper.specs.Poc.{in32, msbOf, pocOf}
@@ -43,7 +43,7 @@ use Rattle.derivation.proofs.Numbered.{poc-val, poc-out}
 use Rattle.derivation.proofs.Runs.{refs-are}
 use Rattle.session.specs.declared.Answer.{Answer}
 use Rattle.store.specs.declared.Sizes.{Sizes}
-use Rattle.store.specs.declared.Tally.{Tally}
+use Rattle.store.specs.declared.Tail as Store
 use Rattle.session.specs.declared.reading.Head.{Head}
 use Rattle.session.specs.declared.starting.Flags.{Flags}
 use Rattle.session.specs.declared.starting.Start.{Start}
@@ -52,6 +52,8 @@ use Rattle.store.specs.Shelf.{word, stored}
 use Rattle.store.specs.Tails.{serialAt, serialsIn, tailIn}
 use Rattle.store.specs.Bumps.{Leaves}
 use Rattle.store.specs.Runs.{wishesIn, HoldsSets, Derives}
+use Rattle.session.specs.Laid.{sizesOf, frontOf, headWords}
+use Rattle.session.specs.Laid as Laid
 use Rattle.session.specs.View.{Memory, memory, sessionIn, sessionOf, Front, frontIn, limitsAt, currentAt, nowAt, flagOf, begunFront}
 use Rattle.session.specs.Said.{Says, Answers, Does}
 use Rattle.session.specs.Parts.{headOf, HoldsWishes}
@@ -62,7 +64,7 @@ use Rattle.session.proofs.Bytes.{words-join}
 use Rattle.session.proofs.Entries.{entries-are}
 use Rattle.session.proofs.Ways.{begin-6, begin-0}
 use Rattle.session.proofs.Wishing.{apart}
-use Rattle.session.proofs.Saying.{as-decided}
+use Rattle.session.proofs.Saying.{as-decided, tail-held}
 
 -- ---- number 6 and acceptance, behind the other tests
 
@@ -216,23 +218,24 @@ module _ (s : Session) (r : List ℕ) (h : Head) (t : Start) (ps : List ℤ) (hs
 
 -- ---- step 5 and the reply
 
-pub tells : (h us vs p : List ℕ) (t : Start) (x : Sizes) {l : Limits} {b : Bool} {y : Told} {p′ hs ts rs : List ℕ} {c : Tally} {before : List ℕ} {a : Answer} {after : List ℕ}
-    → l ≡ limitsAt h → b ≡ flagOf (word h 2) → y ≡ toldFrom (word h 3) t → Leaves (beforeDecoding (t .flags .over && not b) (t .flags .prior) l (stored p)) p′ hs ts rs c
-    → Says (framed 258 0 (begunPart y x us vs ++ tailBytes (tailIn hs ts rs c))) before a after → Tells h us vs p t x before a p′ after
-tells h us vs p t x {l} {b} {y} {p′} {hs} {ts} {rs} {c} {before} {a} {after} el eb ey k w =
+pub tells : (h us vs p : List ℕ) (t : Start) (x : Sizes) {l : Limits} {b : Bool} {y : Told} {p′ : List ℕ} {c : Store.Tail} {before : List ℕ} {a : Answer} {after : List ℕ}
+    → l ≡ limitsAt h → b ≡ flagOf (word h 2) → y ≡ toldFrom (word h 3) t → Leaves (beforeDecoding (t .flags .over && not b) (t .flags .prior) l (stored p)) p p′ c
+    → Says (framed 258 0 (begunPart y x us vs ++ tailBytes (tailIn c))) before a after → Tells h us vs p t x before a p′ after
+tells h us vs p t x {l} {b} {y} {p′} {c} {before} {a} {after} el eb ey k w =
     let m : beforeDecoding (t .flags .over && not b) (t .flags .prior) l (stored p) ≡ beforeDecoding (t .flags .over && not (flagOf (word h 2))) (t .flags .prior) (limitsAt h) (stored p) =
     λ i. beforeDecoding (t .flags .over && not (eb i)) (t .flags .prior) (el i) (stored p)
     in
-    let e : tailIn hs ts rs c ≡ beforeDecoding (t .flags .over && not (flagOf (word h 2))) (t .flags .prior) (limitsAt h) (stored p) .tail = k .tail ∙ ap (λ (z : Moved). z .tail) m in
+    let e : tailIn c ≡ beforeDecoding (t .flags .over && not (flagOf (word h 2))) (t .flags .prior) (limitsAt h) (stored p) .tail = tail-held (k .tail) ∙ ap (λ (z : Moved). z .tail) m in
     record {
       pics = k .pics ∙ ap (λ (z : Moved). z .pics) m;
+      normal = k .normal;
       says = subst (λ (z : List ℕ). Says (framed 258 0 z) before a after) (λ i. begunPart (ey i) x us vs ++ tailBytes (e i)) w;
     }
 
 -- ---- a begin that nothing refuses, from what its parts did: the marks and the sets, then the room and the reply, then the words beside the store
 
 module _ (m : Memory) (r : List ℕ) (h : Head) (t : Start) (ps : List ℤ) (hs : List ℕ) (q : Wished (sessionIn m) r h t ps hs)
-    {l : Limits} {p us vs : List ℕ} {x : Sizes} (el : l ≡ limitsAt (m .head)) (d : Derives (modulus l) (unmarkedIf (t .flags .over) (stored (m .places))) (wishesIn ps hs (h .neg) (h .pos) (h .lt)) p us vs x)
+    {l : Limits} {p us vs : List ℕ} {x : Sizes} (el : l ≡ limitsAt (m .head)) (d : Derives (modulus l) (unmarkedIf (t .flags .over) (stored (m .places))) (wishesIn ps hs (h .neg) (h .pos) (h .lt)) (m .places) (m .sets) p us vs x)
     {before : List ℕ} {a : Answer} {p′ after : List ℕ} (w : Tells (m .head) us vs p t x before a p′ after) (n : length us ≡ 16) where
   abbrev s : Session
   s = sessionIn m
@@ -240,8 +243,8 @@ module _ (m : Memory) (r : List ℕ) (h : Head) (t : Start) (ps : List ℤ) (hs 
   abbrev fs : Fields
   fs = fieldsOf r
 
-  derived : Derives (modulus (limitsAt (m .head))) (unmarkedIf (t .flags .over) (stored (m .places))) (wishesIn ps hs (h .neg) (h .pos) (h .lt)) p us vs x
-  derived = subst (λ (z : Limits). Derives (modulus z) (unmarkedIf (t .flags .over) (stored (m .places))) (wishesIn ps hs (h .neg) (h .pos) (h .lt)) p us vs x) el d
+  derived : Derives (modulus (limitsAt (m .head))) (unmarkedIf (t .flags .over) (stored (m .places))) (wishesIn ps hs (h .neg) (h .pos) (h .lt)) (m .places) (m .sets) p us vs x
+  derived = subst (λ (z : Limits). Derives (modulus z) (unmarkedIf (t .flags .over) (stored (m .places))) (wishesIn ps hs (h .neg) (h .pos) (h .lt)) (m .places) (m .sets) p us vs x) el d
 
   room-made : beforeDecoding (t .flags .over && not (flagOf (word (m .head) 2))) (t .flags .prior) (limitsAt (m .head)) (stored p) ≡ roomMade s fs
   unfolding frontIn
@@ -280,14 +283,31 @@ module _ (m : Memory) (r : List ℕ) (h : Head) (t : Start) (ps : List ℤ) (hs 
         next = next-is s r h t ps hs q i;
       }
 
-  pub begun-does : {h′ : List ℕ} {c : Current} {y : Refs} {k : ℕ} → frontIn h′ ≡ begunFront (frontIn (m .head)) c y k → c ≡ currentFrom (word (m .head) 3) h t → y ≡ refsFrom x
+  -- the sizes of the sets, and how many members they have
+  sizes-are : refsFrom x ≡ sizesOf (begunSession s fs .refs)
+  sizes-are = λ i. record { before = sets-held .before i; after = sets-held .after i; long = sets-held .long i }
+
+  members-are-all : length (allRefs (begunSession s fs .refs)) ≡ x .before + x .after + x .long
+  members-are-all = let b = sets-held .before in let c = sets-held .after in let l = sets-held .long in simp length-append (omega arith)
+
+  pub begun-does : {h′ : List ℕ} {c : Current} {y : Refs} {k : ℕ} → frontIn h′ ≡ begunFront (frontIn (m .head)) c y k
+      → ((f : Front) → m .head ≡ headWords f → h′ ≡ headWords (begunFront f c y k)) → c ≡ currentFrom (word (m .head) 3) h t → y ≡ refsFrom x
       → k ≡ cond (eqb (word (m .head) 3) 4294967295) 0 (word (m .head) 3 + 1) → Does m (beginOf s fs) before a (memory h′ us p′) after
-  begun-does e ec ey ek =
+  unfolding frontIn
+  begun-does e wh ec ey ek =
+      let n = ap (λ (f : Front). sessionOf f us p′) (e ∙ (λ i. begunFront (frontIn (m .head)) (ec i) (ey i) (ek i))) ∙ next-session in
       as-decided (inside s r (q .placed .passed) (q .within))
       (record {
         answers = answers-are;
-        next = ap (λ (f : Front). sessionOf f us p′) (e ∙ (λ i. begunFront (frontIn (m .head)) (ec i) (ey i) (ek i))) ∙ next-session;
+        next = n;
         left = λ z. absurd (z refl);
+        normal = λ z.
+            record {
+              head = wh (frontOf s) (z .head)
+                  ∙ (λ i. headWords (begunFront (frontOf s) ((ec ∙ current-is s r h t ps hs q) i) ((ey ∙ sizes-are) i) ((ek ∙ next-is s r h t ps hs q) i))) ∙ ap Laid.headOf (sym n);
+              places = w .normal (d .normal (z .places));
+            };
+        run = λ i le. d .behind i (omega (arith, members-are-all));
       })
 
 -- ---- the stages' own facts

@@ -1,5 +1,5 @@
 -- Read this first. What is proved of the code: any two results that the contract of `step` permits are equal in the answer, in the buffer and in the session that
--- the memory is; a run of calls views as the paper's run; so demand 3, what a refusal leaves and writes, and the invariants of all sessions hold of the code.
+-- the memory is, and, from memory in normal form, in every word; a run of calls views as the paper's run; so demand 3, what a refusal leaves and writes, and the invariants of all sessions hold of the code.
 use Prim.Native.Nat.{ℕ, _≤_, _<_}
 use mathlib.Core.Path.{_≡_, refl, sym, ap, _∙_, subst}
 use mathlib.Core.List.{List, [], _∷_, _++_}
@@ -7,10 +7,10 @@ use native.Mathlib.Omega.{arith}
 use lib.ListN.{length, take, drop}
 use lib.Seq.{take-append-seam}
 use lib.Dec.{ltb}
-use borrow.Author.Tests.{ltb-true}
+use borrow.Author.Tests.{ltb-true, ltb-false}
 use Rattle.wire.specs.Bytes.{over}
 use Rattle.paper.specs.Numbers.{bytes16, replyLimit}
-use Rattle.paper.specs.State.{fresh, normal}
+use Rattle.paper.specs.State.{fresh, normal, allRefs}
 use Rattle.paper.specs.State as P
 use Rattle.paper.specs.Step.{Result, stepOf, sessionAfter, afterCalls, answeredOf}
 use Rattle.paper.specs.Statement.{exchanges, Bytes, Statement}
@@ -21,15 +21,28 @@ use Rattle.paper.proofs.Normal.{Bounded, bounded-after, reached-normal}
 use Rattle.paper.proofs.Calm.{Quiet, calm-between}
 use Rattle.paper.proofs.InStep.{InStep, in-step-after}
 use Rattle.paper.proofs.Demand.{demand}
+use Rattle.store.specs.Shelf.{word}
 use Rattle.session.specs.declared.Answer.{Answer}
 use Rattle.session.specs.View.{Memory, sessionIn}
+use Rattle.session.specs.Laid.{NormalMemory}
 use Rattle.session.specs.Said.{Permitted}
 use Rattle.session.specs.Sequence.{Called, Run, callsOf, heardIn}
+use Rattle.session.proofs.Memories.{sizeOf, members-few, heads-same, members-same, places-same}
 
 -- ---- any two permitted results are equal: answer, buffer and the session that is left
 
 pub determined : {m : Memory} {r before : List ℕ} {a b : Answer} {m1 m2 : Memory} {x y : List ℕ} → Permitted m r before a m1 x → Permitted m r before b m2 y → (a ≡ b) × (x ≡ y) × (sessionIn m1 ≡ sessionIn m2)
 determined p q = (p .answer ∙ sym (q .answer), p .bytes ∙ sym (q .bytes), p .next ∙ sym (q .next))
+
+-- and, from memory in its normal form, in every word
+pub determined-words : {m : Memory} {r before : List ℕ} {a b : Answer} {m1 m2 : Memory} {x y : List ℕ} → Permitted m r before a m1 x → Permitted m r before b m2 y → NormalMemory m
+    → (m1 .head ≡ m2 .head) × ((i : ℕ) → word (m1 .sets) i ≡ word (m2 .sets) i) × ((j : ℕ) → j < 97 → word (m1 .places) j ≡ word (m2 .places) j)
+determined-words {m} {r} {before} {m1 = m1} {m2} p q n =
+    let e = p .next ∙ sym (q .next) in
+    let n1 = p .normal n in
+    let n2 = q .normal n in
+    let few : length (allRefs (stepOf (sessionIn m) r (length before) .next .refs)) ≤ sizeOf m1 = subst (λ (v : P.Session). length (allRefs (v .refs)) ≤ sizeOf m1) (p .next) (members-few m1) in
+    (heads-same n1 n2 e, (λ i. split (ltb i (sizeOf m1)) (λ t. members-same n1 n2 e i (ltb-true i (sizeOf m1) t)) (λ t. let le : sizeOf m1 ≤ i = ltb-false i (sizeOf m1) t in p .run i (omega arith) ∙ sym (q .run i (omega arith)))), places-same n1 n2 e)
 
 -- ---- one call, on memory m
 
@@ -92,6 +105,11 @@ heard-is m (x ∷ xs) m′ h =
     let g = large-room v (x .said) (length (x .before)) e in
     rw e
     (λ i. record { said = x .said; answered = (written-is (h .0) ∙ ap (λ (y : Result). y .bytes) g) i } ∷ (rest ∙ ap (λ (y : P.Session). exchanges y (answeredOf (callsOf xs))) (n ∙ ap (λ (y : Result). y .next) g)) i))
+
+-- a run keeps the normal form
+pub run-normal : (m : Memory) (xs : List Called) (m′ : Memory) → Run m xs m′ → NormalMemory m → NormalMemory m′
+run-normal m [] m′ e n = subst NormalMemory e n
+run-normal m (x ∷ xs) m′ h n = run-normal (x .left) xs m′ (h .1) (h .0 .normal n)
 
 -- ---- from memory that `fresh` made: the run of the code
 

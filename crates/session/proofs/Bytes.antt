@@ -1,13 +1,12 @@
 -- The bytes of a reply: runs of entries one after the other, the head that is written last, and the room of a tail and of the sets.
-use Prim.Native.Nat.{ℕ, _+_, _*_, _-_, _≤_}
-use mathlib.Core.Path.{_≡_, refl, sym, ap, ap₂, _∙_}
+use Prim.Native.Nat.{ℕ, zero, suc, _+_, _*_, _-_, _≤_}
+use mathlib.Core.Path.{_≡_, refl, sym, ap, _∙_}
 use mathlib.Core.Bool.{false}
 use mathlib.Core.List.{List, [], _∷_, _++_, map, map-append, append-nil}
-use native.Mathlib.Nat.{zero-add}
 use native.Mathlib.Omega.{arith}
 use lib.Dec.{eqb}
-use lib.ListN.{length, getD, length-append}
-use lib.Seq.{sets}
+use lib.ListN.{length, getD, take, length-append, length-map}
+use lib.Seq.{sets, take-suc}
 use Rattle.paper.specs.Words.{flat, table}
 use Rattle.paper.specs.declared.Serial.{Serial}
 use Rattle.paper.specs.declared.Surface.{Surface}
@@ -16,19 +15,20 @@ use Rattle.paper.specs.Numbers.{bytes16, bytes32, serialNos, surfaceNos}
 use Rattle.paper.specs.Replies.{shownBytes, words, tailBytes, framed, bytesOf}
 use Rattle.paper.specs.Replies.Reply.{Listed}
 use Rattle.paper.proofs.Fits.{table-length}
+use Rattle.derivation.specs.declared.rows.RefList.{RefList}
 use Rattle.wire.proofs.Laws.{runs, head-last, sets-over}
 use Rattle.wire.proofs.Flat.{flat-append, length-flat}
+use Rattle.derivation.specs.Pad.{Padded, used}
 use Rattle.session.specs.declared.Refusal.{Refusal}
 use Rattle.session.specs.declared.Refusal.the-variants.{Unconfigured, BadLimits, Busy, NoCurrent, OutOfRange, Outside, SurfaceHeld, SerialsSpent, StoreFull, NoCandidate, TooMany, BadEntry, Malformed, NoRoom}
 use Rattle.store.specs.declared.Sizes.{Sizes}
-use Rattle.store.specs.declared.Tally.{Tally}
+use Rattle.store.specs.declared.Tail.{Tail}
 use Rattle.session.specs.declared.writing.Told.{Told}
 use Rattle.session.specs.Numbered.{numberOf}
 use Rattle.session.specs.Said.{Says, Refuses}
-use Rattle.store.specs.Shelf.{word}
-use Rattle.store.specs.Tails.{shownAt, serialAt, surfaceAt, shownIn, serialsIn, surfacesIn, tailIn}
-use Rattle.session.specs.Written.{FewTail, FewMembers, toldBytes, numbersFrom, memberBytes}
-use Rattle.store.proofs.Shelf.{table-more, table-same, table-map}
+use Rattle.store.specs.Tails.{tailIn, GoodTail}
+use Rattle.session.specs.Written.{FewMembers, Listable, toldBytes, numbersFrom, memberBytes, listIn}
+use Rattle.store.proofs.Shelf.{table-more, table-map}
 
 -- a refusal's number is not that of acceptance
 pub refusal-number : (r : Refusal) → eqb (numberOf r) 0 ≡ false
@@ -101,9 +101,6 @@ pub words-table : {A : Type 0} (f : A → ℕ) (g : ℕ → A) (n : ℕ) → wor
 unfolding words
 words-table f g n = ap (flat bytes32) (table-map f g n)
 
-pub length-words : {A : Type 0} (f : A → ℕ) (g : ℕ → A) (n : ℕ) → length (words (map f (table g n))) ≡ 4 * n
-length-words f g n = ap length (words-table f g n) ∙ length-entries bytes32 (λ (i : ℕ). f (g i)) 4 length-bytes32 n
-
 pub words-join : {A : Type 0} (f : A → ℕ) (xs ys : List A) → words (map f (xs ++ ys)) ≡ words (map f xs) ++ words (map f ys)
 unfolding words
 words-join f xs ys = ap words (map-append f xs ys) ∙ flat-append bytes32 (map f xs) (map f ys)
@@ -113,10 +110,27 @@ pub length-numbers : (xs : List ℕ) (from n : ℕ) → length (words (numbersFr
 unfolding words
 length-numbers xs from n = length-entries bytes32 (λ (i : ℕ). getD xs (from + i) 0) 4 length-bytes32 n
 
-pub serials-numbers : (xs : List ℕ) (n : ℕ) → serialNos (serialsIn xs n) ≡ numbersFrom xs 0 n
-serials-numbers xs n =
-    table-map (λ (s : Serial). s .0) (serialAt xs) n
-    ∙ table-same (λ (i : ℕ). word xs i) (λ (i : ℕ). word xs (0 + i)) n (λ i l. ap (word xs) (sym (zero-add i)))
+-- the first elements of a list, as a table, and their numbers
+pub take-table : {A : Type 0} (d : A) (xs : List A) (n : ℕ) → n ≤ length xs → take n xs ≡ table (λ (i : ℕ). getD xs i d) n
+unfolding table
+take-table d xs zero h = refl
+take-table d xs (suc n) h = take-suc xs n d (omega arith) ∙ ap (λ (l : List _). l ++ (getD xs n d ∷ [])) (take-table d xs n (omega arith))
+
+pub words-front : {A : Type 0} (f : A → ℕ) (d : A) (xs : List A) (n : ℕ) → n ≤ length xs → words (map f (take n xs)) ≡ flat bytes32 (table (λ (i : ℕ). f (getD xs i d)) n)
+words-front f d xs n h = ap (λ (l : List _). words (map f l)) (take-table d xs n h) ∙ words-table f (λ (i : ℕ). getD xs i d) n
+
+-- an array that holds its own elements: how many, and the lengths of their entries
+module _ {A : Type 0} {n m : ℕ} {d : A} {a : List A} (h : Padded n d a m (used m a)) where
+  pub held-long : length (take m a) ≡ m
+  unfolding used
+  held-long = sym (h .long)
+
+  pub held-entries : (f : A → List ℕ) (k : ℕ) → ((x : A) → length (f x) ≡ k) → length (flat f (take m a)) ≡ k * m
+  held-entries f k e = length-flat f k e (take m a) ∙ ap (λ (j : ℕ). k * j) held-long
+
+  pub held-words : (f : A → ℕ) → length (words (map f (take m a))) ≡ 4 * m
+  unfolding words
+  held-words f = length-flat bytes32 4 length-bytes32 (map f (take m a)) ∙ ap (λ (j : ℕ). 4 * j) (length-map (take m a) f ∙ held-long)
 
 -- a body from 6 on, then the head
 pub framed-last : {n r : ℕ} {d1 d2 : List ℕ} (d b : List ℕ) (kind : ℕ) → Run d 6 b n d1 → n ≤ length d → Run d1 0 (bytes16 (n - 4) ++ bytes16 kind ++ bytes16 0) r d2
@@ -136,28 +150,21 @@ pub refused-says : {n r : ℕ} {d' : List ℕ} (kind : ℕ) (why : Refusal) (d :
 refused-says kind why d e w h =
     record { answer = rw (e, w .0); bytes = rw e at (w .1 ∙ sets-over (bytes16 2 ++ bytes16 kind ++ bytes16 _) d h) }
 
--- the lengths of a tail's runs
-pub length-handed : (hs : List ℕ) (n : ℕ) → length (flat shownBytes (shownIn hs n)) ≡ 12 * n
-length-handed hs n = length-entries shownBytes (shownAt hs) 12 length-shown n
-
-pub length-serials : (xs : List ℕ) (n : ℕ) → length (words (serialNos (serialsIn xs n))) ≡ 4 * n
-length-serials xs n = length-words (λ (s : Serial). s .0) (serialAt xs) n
-
-pub length-surfaces : (xs : List ℕ) (n : ℕ) → length (words (surfaceNos (surfacesIn xs n))) ≡ 4 * n
-length-surfaces xs n = length-words (λ (s : Surface). s .0) (surfaceAt xs) n
-
 -- a tail by its runs, and its room
-module _ (hs ts rs : List ℕ) (c : Tally) where
-  pub tail-is : tailBytes (tailIn hs ts rs c) ≡ (c .handed ∷ flat shownBytes (shownIn hs (c .handed)))
-      ++ (c .thrown ∷ words (serialNos (serialsIn ts (c .thrown))))
-      ++ (c .released ∷ words (surfaceNos (surfacesIn rs (c .released))))
-  unfolding tailBytes
-  tail-is = rw (table-length (shownAt hs) (c .handed), table-length (serialAt ts) (c .thrown), table-length (surfaceAt rs) (c .released))
+module _ (x : Tail) (g : GoodTail x) where
+  pub tail-is : tailBytes (tailIn x) ≡ (x .handed .len ∷ flat shownBytes (take (x .handed .len) (x .handed .items)))
+      ++ (x .thrown .len ∷ words (serialNos (take (x .thrown .len) (x .thrown .items))))
+      ++ (x .released .len ∷ words (surfaceNos (take (x .released .len) (x .released .items))))
+  unfolding tailBytes used
+  tail-is = rw (sym (g .handed .long), sym (g .thrown .long), sym (g .released .long))
 
-  pub tail-room : FewTail c → length (tailBytes (tailIn hs ts rs c)) ≤ 331
-  tail-room f =
+  pub tail-room : length (tailBytes (tailIn x)) ≤ 331
+  tail-room =
       let e = ap length tail-is in
-      omega (arith, simp length-append at e, length-handed hs (c .handed), length-serials ts (c .thrown), length-surfaces rs (c .released))
+      let h = g .handed .room in
+      let t = g .thrown .room in
+      let r = g .released .room in
+      omega (arith, simp length-append at e, held-entries (g .handed) shownBytes 12 length-shown, held-words (g .thrown) (λ (s : Serial). s .0), held-words (g .released) (λ (s : Surface). s .0))
 
 -- the room of the members of the sets
 pub members-room : (x : Sizes) (us vs : List ℕ) → FewMembers x → length (memberBytes x us vs) ≤ 64
@@ -170,10 +177,8 @@ members-room x us vs f =
     simp length-append (omega arith)
 
 -- the serials of two lists, one behind the other
-pub listed : (xs ys : List ℕ) (n m : ℕ) → bytesOf (Listed (serialsIn xs n) (serialsIn ys m)) ≡ framed 259 0 ((n ∷ m ∷ words (numbersFrom xs 0 n)) ++ words (numbersFrom ys 0 m))
-unfolding bytesOf
-listed xs ys n m =
-    let e : words (serialNos (serialsIn xs n ++ serialsIn ys m)) ≡ words (numbersFrom xs 0 n) ++ words (numbersFrom ys 0 m) =
-    words-join (λ (s : Serial). s .0) (serialsIn xs n) (serialsIn ys m)
-    ∙ ap₂ (λ (a b : List ℕ). words a ++ words b) (serials-numbers xs n) (serials-numbers ys m) in
-    rw (table-length (serialAt xs) n, table-length (serialAt ys) m, e)
+pub listed : (x y : RefList) → Listable x → Listable y → bytesOf (Listed (listIn x) (listIn y)) ≡ framed 259 0 ((x .len ∷ y .len ∷ words (serialNos (take (x .len) (x .items)))) ++ words (serialNos (take (y .len) (y .items))))
+unfolding bytesOf used
+listed x y h k =
+    let e = words-join (λ (s : Serial). s .0) (take (x .len) (x .items)) (take (y .len) (y .items)) in
+    rw (held-long (h .holds), held-long (k .holds), e)

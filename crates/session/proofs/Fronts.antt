@@ -1,6 +1,6 @@
 -- The words of a session beside its store are twenty-three, so what each of them holds after some are written computes. Assumes nothing.
 use Prim.Native.Nat.{ℕ, zero, suc, _≤_}
-use mathlib.Core.Path.{_≡_, refl, sym, _∙_, subst}
+use mathlib.Core.Path.{_≡_, refl, sym, _∙_, ap, subst}
 use mathlib.Core.List.{List, [], _∷_}
 use native.Mathlib.Nat.{mod-eq-of-lt}
 use native.Mathlib.Omega.{arith}
@@ -17,6 +17,7 @@ use Rattle.paper.specs.declared.Prev.the-variants as Prev
 use Rattle.derivation.specs.declared.rows.Refs.{Refs}
 use Rattle.store.specs.Shelf.{word}
 use Rattle.session.specs.View.{flagWord, Front, frontIn, idleFront, configuredFront, begunFront, endedFront}
+use Rattle.session.specs.Laid.{headWords}
 use Rattle.store.proofs.Shelf.{flag-back}
 
 -- words, one by one
@@ -25,9 +26,15 @@ unfolding table
 first-words h zero le = refl
 first-words h (suc n) le = rw (first-words h n (omega arith)) (sym (take-suc h n 0 (omega arith)))
 
--- the words with no picture current, with these limits, with this picture current
+-- the words with no picture current and no previous Tid0 picture, with this one, with these limits, with this picture current
 abbrev pub idleWords : List ℕ → List ℕ
-idleWords h = sets (set h 12 0) 20 (0 ∷ 0 ∷ 0 ∷ [])
+idleWords h = sets h 12 (0 ∷ 0 ∷ 0 ∷ 0 ∷ 0 ∷ 0 ∷ 0 ∷ 0 ∷ 0 ∷ 0 ∷ 0 ∷ [])
+
+abbrev pub noneWords : List ℕ → List ℕ
+noneWords h = sets (idleWords h) 9 (0 ∷ 0 ∷ 0 ∷ [])
+
+abbrev pub tid0Words : ℕ → ℤ → List ℕ → List ℕ
+tid0Words lsb msb h = sets (idleWords h) 9 (1 ∷ lsb ∷ ofZ w32 msb ∷ [])
 
 abbrev pub limitWords : Limits → List ℕ → List ℕ
 limitWords l h = sets (set h 0 1) 4 (l .k ∷ l .capacity ∷ l .buffering ∷ l .reorder ∷ l .latency ∷ [])
@@ -42,14 +49,13 @@ module _ (h : List ℕ) (long : length h ≡ 23) where
   front-by : (w : List ℕ → List ℕ) (g : Front → Front) → frontIn (w (table (word h) 23)) ≡ g (frontIn (table (word h) 23)) → frontIn (w h) ≡ g (frontIn h)
   front-by w g e = subst (λ (l : List ℕ). frontIn (w l) ≡ g (frontIn l)) (first-words h 23 (omega arith) ∙ take-all 23 h (omega arith)) e
 
-  pub front-none : frontIn (set (idleWords h) 9 0) ≡ idleFront (frontIn h) Prev.Nothing
+  pub front-none : frontIn (noneWords h) ≡ idleFront (frontIn h) Prev.Nothing
   unfolding frontIn table
-  front-none = front-by (λ (l : List ℕ). set (idleWords l) 9 0) (λ (f : Front). idleFront f Prev.Nothing) refl
+  front-none = front-by noneWords (λ (f : Front). idleFront f Prev.Nothing) refl
 
-  pub front-tid0 : (lsb : ℕ) (msb : ℤ) → Fits w16 lsb → SFits w32 msb → frontIn (sets (idleWords h) 9 (1 ∷ lsb ∷ ofZ w32 msb ∷ [])) ≡ idleFront (frontIn h) (Prev.Tid0 lsb msb)
+  pub front-tid0 : (lsb : ℕ) (msb : ℤ) → Fits w16 lsb → SFits w32 msb → frontIn (tid0Words lsb msb h) ≡ idleFront (frontIn h) (Prev.Tid0 lsb msb)
   unfolding frontIn table
-  front-tid0 lsb msb a b =
-      front-by (λ (l : List ℕ). sets (idleWords l) 9 (1 ∷ lsb ∷ ofZ w32 msb ∷ [])) (λ (f : Front). idleFront f (Prev.Tid0 lsb msb)) (rw (mod-eq-of-lt (a .fits), toZ-ofZ w32 msb b))
+  front-tid0 lsb msb a b = front-by (tid0Words lsb msb) (λ (f : Front). idleFront f (Prev.Tid0 lsb msb)) (rw (mod-eq-of-lt (a .fits), toZ-ofZ w32 msb b))
 
   pub front-limits : (l : Limits) → Fits w8 (l .k) → Fits w8 (l .capacity) → Fits w8 (l .buffering) → Fits w8 (l .reorder) → Fits w16 (l .latency)
       → frontIn (limitWords l h) ≡ configuredFront (frontIn h) l
@@ -68,3 +74,25 @@ module _ (h : List ℕ) (long : length h ≡ 23) where
   pub front-ended : frontIn (set h 2 1) ≡ endedFront (frontIn h)
   unfolding frontIn table
   front-ended = front-by (λ (l : List ℕ). set l 2 1) endedFront refl
+
+-- words that are what some session is written as are so after each kind of write
+module _ (h : List ℕ) (f : Front) (e : h ≡ headWords f) where
+  pub words-none : noneWords h ≡ headWords (idleFront f Prev.Nothing)
+  unfolding headWords
+  words-none = ap noneWords e
+
+  pub words-tid0 : (lsb : ℕ) (msb : ℤ) → tid0Words lsb msb h ≡ headWords (idleFront f (Prev.Tid0 lsb msb))
+  unfolding headWords
+  words-tid0 lsb msb = ap (tid0Words lsb msb) e
+
+  pub words-limits : (l : Limits) → limitWords l h ≡ headWords (configuredFront f l)
+  unfolding headWords
+  words-limits l = ap (limitWords l) e
+
+  pub words-begun : (c : Current) (x : Refs) (next : ℕ) → begunWords c x next h ≡ headWords (begunFront f c x next)
+  unfolding headWords
+  words-begun c x next = ap (begunWords c x next) e
+
+  pub words-ended : set h 2 1 ≡ headWords (endedFront f)
+  unfolding headWords
+  words-ended = ap (λ (l : List ℕ). set l 2 1) e

@@ -7,4 +7,5 @@ pub mod Wishing
 pub mod Saying
 pub mod Begins
 pub mod Steps
+pub mod Memories
 pub mod Bridge

@@ -23,7 +23,9 @@ use Rattle.paper.specs.Step.{refused, listsRefusal, listsAt, listsOf}
 use Rattle.paper.proofs.Bools.{left, right}
 use Rattle.paper.proofs.Ways.{first-none, yes-of}
 use Rattle.paper.proofs.Fits.{table-length}
-use Rattle.derivation.specs.Lists.{candidatesOf, listOf, CandidateCount, Ready}
+use Rattle.derivation.specs.declared.rows.RefList.{RefList}
+use Rattle.derivation.specs.Lists.{noList, candidatesOf, listOf, CandidateCount, Ready, HoldsList}
+use Rattle.derivation.proofs.Pad.{is-view, is-good}
 use Rattle.derivation.proofs.Instances.{list0-is, list1-is, candidates-0, candidates-1}
 use Rattle.session.specs.declared.Answer.{Answer}
 use Rattle.session.specs.declared.Refusal.{Refusal}
@@ -34,7 +36,7 @@ use Rattle.session.specs.Numbered.{numberOf}
 use Rattle.session.specs.Said.{Says, Refuses, Answers, WellFormed}
 use Rattle.session.proofs.Bytes.{refusal-number}
 use Rattle.session.specs.Slices.{AsksAs, numberIn, listsNumber}
-use Rattle.store.specs.Tails.{serialsIn}
+use Rattle.session.specs.Written.{listIn, Listable}
 
 -- ---- the entry bytes
 
@@ -235,35 +237,39 @@ module _ {x : Refs} {c : Serial} {a : Ask} {own : Bool} {es : List ℕ} (r : Lis
 
 -- ---- the two lists
 
-pub no-serials : (xs : List ℕ) → serialsIn xs 0 ≡ []
-unfolding table
-no-serials xs = refl
+holds-none : (l : RefList) (xs : List Serial) → l ≡ noList → xs ≡ [] → HoldsList l xs
+holds-none l xs e g = rw (e, g) (record { places = refl; long = refl; room = omega arith })
 
-module _ (x : Refs) (c : Serial) (f : Slice) {a : Ask} where
-  pub unused-0 : AsksAs a (f .ask0) → a .uses ≡ false → [] ≡ list0 x c f
+module _ (x : Refs) (c : Serial) (f : Slice) (l : RefList) {a : Ask} where
+  pub unused-0 : AsksAs a (f .ask0) → a .uses ≡ false → l ≡ noList → HoldsList l (list0 x c f)
   unfolding list0
-  unused-0 p u = let v : f .ask0 .uses ≡ false = sym (p .uses) ∙ u in rw v
+  unused-0 p u e = let v : f .ask0 .uses ≡ false = sym (p .uses) ∙ u in holds-none l (list0 x c f) e (rw v)
 
-  pub unused-1 : AsksAs a (f .ask1) → a .uses ≡ false → [] ≡ list1 x c f
+  pub unused-1 : AsksAs a (f .ask1) → a .uses ≡ false → l ≡ noList → HoldsList l (list1 x c f)
   unfolding list1
-  unused-1 p u = let v : f .ask1 .uses ≡ false = sym (p .uses) ∙ u in rw v
+  unused-1 p u e = let v : f .ask1 .uses ≡ false = sym (p .uses) ∙ u in holds-none l (list1 x c f) e (rw v)
 
   module _ {own : Bool} {es : List ℕ} (o : own ≡ f .own) (u : a .uses ≡ true) where
-    pub built-0 : {n : ℕ} {last : Bool} {xs : List Serial} → AsksAs a (f .ask0) → es ≡ f .ask0 .entries → CandidateCount x own n → last ≡ (own && not (a .modify) && ltb (a .active) n)
-        → xs ≡ listOf x c own false last (a .active) (a .modify) es → xs ≡ list0 x c f
-    built-0 p e k j h =
+    pub held-0 : {n : ℕ} {last : Bool} → AsksAs a (f .ask0) → es ≡ f .ask0 .entries → CandidateCount x own n → last ≡ (own && not (a .modify) && ltb (a .active) n)
+        → HoldsList l (listOf x c own false last (a .active) (a .modify) es) → HoldsList l (list0 x c f)
+    held-0 {last = last} p e k j h =
         let v : f .ask0 .uses ≡ true = sym (p .uses) ∙ u in
-        h ∙ sym (rw (j, k .first c, o, p .active, p .modify, e) (list0-is x c f v))
+        let i : list0 x c f ≡ listOf x c own false last (a .active) (a .modify) es = rw (j, k .first c, o, p .active, p .modify, e) (list0-is x c f v) in
+        rw i h
 
-    pub built-1 : {xs : List Serial} → AsksAs a (f .ask1) → es ≡ f .ask1 .entries → xs ≡ listOf x c own true false (a .active) (a .modify) es → xs ≡ list1 x c f
-    built-1 p e h =
+    pub held-1 : AsksAs a (f .ask1) → es ≡ f .ask1 .entries → HoldsList l (listOf x c own true false (a .active) (a .modify) es) → HoldsList l (list1 x c f)
+    held-1 p e h =
         let v : f .ask1 .uses ≡ true = sym (p .uses) ∙ u in
-        h ∙ sym (rw (o, p .active, p .modify, e) (list1-is x c f v))
+        let i : list1 x c f ≡ listOf x c own true false (a .active) (a .modify) es = rw (o, p .active, p .modify, e) (list1-is x c f v) in
+        rw i h
+
+pub listable : (l : RefList) (xs : List Serial) → HoldsList l xs → Listable l
+listable l xs h = record { holds = is-good h }
 
 -- ---- the answer
 
-pub says-listed : {a : Answer} {before after : List ℕ} {xs ys us vs : List Serial} → xs ≡ us → ys ≡ vs → Says (bytesOf (Listed xs ys)) before a after → Says (bytesOf (Listed us vs)) before a after
-says-listed p q h = rw (← p, ← q) h
+pub says-listed : {a : Answer} {before after : List ℕ} {x y : RefList} {us vs : List Serial} → HoldsList x us → HoldsList y vs → Says (bytesOf (Listed (listIn x) (listIn y))) before a after → Says (bytesOf (Listed us vs)) before a after
+says-listed p q h = rw (← is-view p, ← is-view q) h
 
 pub fine-is : (v : Verdict) (n : ℕ) → v ≡ Fine → numberIn v ≡ n → n ≡ 0
 fine-is v n e j = sym j ∙ rw e

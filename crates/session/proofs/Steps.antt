@@ -11,7 +11,7 @@ use Rattle.wire.specs.Bytes.{over}
 use Rattle.paper.specs.declared.Now.{Now}
 use Rattle.paper.specs.declared.Now.the-variants as Now
 use Rattle.paper.specs.Records.{Slice, kindOf, lengthOf, bodyOk, wellFormed, limitsOf, fieldsOf, sliceOf}
-use Rattle.paper.specs.State.{onNow}
+use Rattle.paper.specs.State.{onNow, allRefs}
 use Rattle.paper.specs.State as P
 use Rattle.paper.specs.Replies.{bytesOf}
 use Rattle.paper.specs.Step.{Decided, Result, refused, configureOf, beginOf, listsRefusal, listsAt, listsOf, finishOf, drainOf, discardOf, endOf, abandonOf, byKind, decideOf, stepOf}
@@ -102,7 +102,7 @@ lists-keep s f = go (s .current)
     go (Now.Is c) = by-case (Keeps s) (eqb (listsRefusal s c f) 0) _ _ (λ _. record { is = refl }) (λ _. record { is = refl })
 
 pub lists-do : (m : Memory) (f : Slice) {before : List ℕ} {a : Answer} {after : List ℕ} → Answers (listsOf (sessionIn m) f) before a after → Does m (listsOf (sessionIn m) f) before a m after
-lists-do m f h = record { answers = h; next = lists-keep (sessionIn m) f .is; left = λ _. refl }
+lists-do m f h = record { answers = h; next = lists-keep (sessionIn m) f .is; left = λ _. refl; normal = λ n. n; run = λ i le. refl }
 
 -- ---- the whole call
 
@@ -125,6 +125,8 @@ permitted {m} {r} {before} d room e h =
       bytes = h .answers .bytes ∙ ap (λ (y : Result). over (y .bytes) before) x;
       next = h .next ∙ ap (λ (y : Result). y .next) x;
       left = λ n. h .left (λ z. n (ap (λ (y : Answer). y .number) (h .answers .answer) ∙ z));
+      normal = h .normal;
+      run = λ i le. h .run i (subst (λ (y : Result). length (allRefs (y .next .refs)) ≤ i) (sym x) le);
     }
 
 -- a record of the kind that was read
@@ -140,4 +142,6 @@ no-room {m} {r} {before} e h =
       bytes = ap (λ (y : Result). over (y .bytes) before) x;
       next = ap (λ (y : Result). y .next) x;
       left = λ _. refl;
+      normal = λ n. n;
+      run = λ i le. refl;
     }

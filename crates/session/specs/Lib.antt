@@ -1,5 +1,6 @@
 pub mod Numbered
 pub mod View
+pub mod Laid
 pub mod Said
 pub mod Parts
 pub mod Slices

@@ -6,13 +6,15 @@ use lib.ListN.{length}
 use Rattle.wire.specs.Bytes.{over}
 use Rattle.paper.specs.Records.{kindOf, wellFormed}
 use Rattle.paper.specs.Replies.{bytesOf, framed, tailBytes}
-use Rattle.paper.specs.State.{onNow}
+use Rattle.paper.specs.State.{onNow, allRefs}
 use Rattle.paper.specs.Calls.{drained, prevAfter}
-use Rattle.paper.specs.Step.{Decided, Result, stepOf}
+use Rattle.paper.specs.Step.{Decided, stepOf}
 use mathlib.Core.Bool.{true}
-use Rattle.store.specs.Shelf.{stored}
+use Rattle.paper.specs.declared.Prev.{Prev}
+use Rattle.store.specs.Shelf.{word, stored, NormalForm}
 use Rattle.session.specs.declared.Answer.{Answer}
-use Rattle.session.specs.View.{Memory, sessionIn, frontIn, idleFront, nowAt, prevAt, limitsAt}
+use Rattle.session.specs.View.{Memory, Front, sessionIn, frontIn, idleFront, nowAt, prevAt, limitsAt}
+use Rattle.session.specs.Laid.{headWords, NormalMemory}
 
 -- an accepted record's reply
 pub record Says (reply before : List ℕ) (a : Answer) (after : List ℕ) : Type 0 where
@@ -29,11 +31,14 @@ pub record Answers (d : Decided) (before : List ℕ) (a : Answer) (after : List 
   pub answer : a ≡ record { number = d .number; len = length (bytesOf (d .reply)) }
   pub bytes : after ≡ over (bytesOf (d .reply)) before
 
--- and the memory m′ that is left of m: the next session; where the record is refused, every word as it was
+-- and the memory m′ that is left of m: the next session; where the record is refused, every word as it was; a normal form if m was one; and the run of the sets
+-- behind the next session's members as it was
 pub record Does (m : Memory) (d : Decided) (before : List ℕ) (a : Answer) (m′ : Memory) (after : List ℕ) : Type 0 where
   pub answers : Answers d before a after
   pub next : sessionIn m′ ≡ d .next
   pub left : (d .number ≡ 0 → ⊥) → m′ ≡ m
+  pub normal : NormalMemory m → NormalMemory m′
+  pub run : (i : ℕ) → length (allRefs (d .next .refs)) ≤ i → word (m′ .sets) i ≡ word (m .sets) i
 
 -- "reply buffer under 512 bytes" is number 14: the calls behind it have the room
 pub record Roomy (reply : List ℕ) : Type 0 where
@@ -44,15 +49,24 @@ pub record WellFormed (k : ℕ) (r : List ℕ) : Type 0 where
   pub formed : wellFormed r ≡ true
   pub kind : kindOf r ≡ k
 
+-- the words beside the store when no picture is current any more and q is the previous Tid0 picture
+pub record Idles (h h′ : List ℕ) (q : Prev) : Type 0 where
+  pub front : frontIn h′ ≡ idleFront (frontIn h) q
+  pub words : (f : Front) → h ≡ headWords f → h′ ≡ headWords (idleFront f q)
+
 -- a drain that nothing refuses, with the reply of kind `kind`
 pub record Drained (h t : List ℕ) (kind : ℕ) (before : List ℕ) (a : Answer) (h′ t′ after : List ℕ) : Type 0 where
   pub says : Says (framed kind 0 (tailBytes (drained (limitsAt h) (stored t) (nowAt h) .tail))) before a after
   pub pics : stored t′ ≡ drained (limitsAt h) (stored t) (nowAt h) .pics
-  pub head : frontIn h′ ≡ idleFront (frontIn h) (onNow (nowAt h) (prevAt h) (prevAfter (prevAt h)))
+  pub head : Idles h h′ (onNow (nowAt h) (prevAt h) (prevAfter (prevAt h)))
+  pub normal : NormalForm t → NormalForm t′
 
--- The contract of `step`: the answer, the whole buffer and the next session are those of the paper's `stepOf`, and a refused record leaves every word as it was
+-- The contract of `step`: the answer, the whole buffer and the next session are those of the paper's `stepOf`; a refused record leaves every word as it was; memory in
+-- its normal form stays so; and the run of the sets stays as it was behind the next session's members
 pub record Permitted (m : Memory) (r before : List ℕ) (a : Answer) (m′ : Memory) (after : List ℕ) : Type 0 where
   pub answer : a ≡ record { number = stepOf (sessionIn m) r (length before) .number; len = length (stepOf (sessionIn m) r (length before) .bytes) }
   pub bytes : after ≡ over (stepOf (sessionIn m) r (length before) .bytes) before
   pub next : sessionIn m′ ≡ stepOf (sessionIn m) r (length before) .next
   pub left : (a .number ≡ 0 → ⊥) → m′ ≡ m
+  pub normal : NormalMemory m → NormalMemory m′
+  pub run : (i : ℕ) → length (allRefs (stepOf (sessionIn m) r (length before) .next .refs)) ≤ i → word (m′ .sets) i ≡ word (m .sets) i

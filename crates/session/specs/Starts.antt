@@ -24,7 +24,7 @@ use Rattle.paper.specs.Output.{beforeDecoding}
 use Rattle.paper.specs.Replies.{framed, tailBytes}
 use Rattle.derivation.specs.declared.rows.Refs.{Refs}
 use Rattle.store.specs.declared.Sizes.{Sizes}
-use Rattle.store.specs.Shelf.{word, stored}
+use Rattle.store.specs.Shelf.{word, stored, NormalForm}
 use Rattle.store.specs.Runs.{wishesIn}
 use Rattle.session.specs.declared.reading.Head.{Head}
 use Rattle.session.specs.declared.Answer.{Answer}
@@ -89,4 +89,5 @@ pub record Wished (s : Session) (r : List ℕ) (h : Head) (t : Start) (ps : List
 -- step 5 and the reply, where the two runs of the sets are us and vs
 pub record Tells (h us vs p : List ℕ) (t : Start) (x : Sizes) (before : List ℕ) (a : Answer) (p′ after : List ℕ) : Type 0 where
   pub pics : stored p′ ≡ beforeDecoding (t .flags .over && not (flagOf (word h 2))) (t .flags .prior) (limitsAt h) (stored p) .pics
+  pub normal : NormalForm p → NormalForm p′
   pub says : Says (framed 258 0 (begunPart (toldFrom (word h 3) t) x us vs ++ tailBytes (beforeDecoding (t .flags .over && not (flagOf (word h 2))) (t .flags .prior) (limitsAt h) (stored p) .tail))) before a after

@@ -1,20 +1,16 @@
 -- The parts of a reply as the code writes them.
-use Prim.Native.Nat.{ℕ, _+_, _-_, _≤_}
-use mathlib.Core.Path.{_≡_}
+use Prim.Native.Nat.{ℕ, _+_, _≤_}
 use mathlib.Core.List.{List, [], _∷_, _++_}
-use lib.ListN.{length, getD}
+use lib.ListN.{getD}
+use Rattle.paper.specs.declared.Serial.{Serial}
 use Rattle.paper.specs.Words.{table}
 use Rattle.paper.specs.Numbers.{bytes32, signed32}
 use Rattle.paper.specs.Replies.{words}
+use Rattle.derivation.specs.Pad.{used}
+use Rattle.derivation.specs.declared.rows.RefList.{RefList}
+use Rattle.derivation.specs.Lists.{HoldsList}
 use Rattle.store.specs.declared.Sizes.{Sizes}
-use Rattle.store.specs.declared.Tally.{Tally}
 use Rattle.session.specs.declared.writing.Told.{Told}
-
--- a tail that fits: counts are bytes, and all of it has at most 350
-pub record FewTail (c : Tally) : Type 0 where
-  pub handed : c .handed ≤ 16
-  pub thrown : c .thrown ≤ 17
-  pub released : c .released ≤ 17
 
 -- the members of all five sets are sixteen at most
 pub record FewMembers (x : Sizes) : Type 0 where
@@ -39,3 +35,11 @@ memberBytes x us vs =
 
 abbrev pub begunPart : Told → Sizes → List ℕ → List ℕ → List ℕ
 begunPart t x us vs = toldBytes t ++ sizesBytes x ++ memberBytes x us vs
+
+-- the serials of a list
+abbrev pub listIn : RefList → List Serial
+listIn l = used (l .len) (l .items)
+
+-- a list that holds what it holds
+pub record Listable (l : RefList) : Type 0 where
+  pub holds : HoldsList l (listIn l)

@@ -71,13 +71,10 @@ fn finish_at(
     if store::is_full(places, l) {
         return writing::refuse(reply, 260, Refusal::StoreFull);
     }
-    let mut handed = [0u32; Store::HANDED];
-    let thrown = [0u32; Store::THROWN];
-    let mut released = [0u32; Store::RELEASED];
-    let r = store::finish_picture(places, c, l, &mut handed, &mut released);
+    let r = store::finish_picture(places, c, l);
     let q = heads::prev_in(head);
     heads::put_idle(head, prev_after(q, c));
-    writing::put_done(reply, 260, r, &handed, &thrown, &released)
+    writing::put_done(reply, 260, r)
 }
 
 // Finish (C.5.2.3).
@@ -116,12 +113,9 @@ fn drain_as(
     let l = heads::limits_in(head);
     let x = heads::now_in(head);
     let q = heads::prev_in(head);
-    let mut handed = [0u32; Store::HANDED];
-    let thrown = [0u32; Store::THROWN];
-    let mut released = [0u32; Store::RELEASED];
-    let r = store::drain(places, x, l, &mut handed, &mut released);
+    let r = store::drain(places, x, l);
     heads::put_idle(head, prev_now(q, x));
-    writing::put_done(reply, kind, r, &handed, &thrown, &released)
+    writing::put_done(reply, kind, r)
 }
 
 // "Drain finishes a current picture, then empties."
@@ -173,12 +167,9 @@ pub(crate) fn discard(
 {
     let x = heads::now_in(head);
     let q = heads::prev_in(head);
-    let handed = [0u32; Store::HANDED];
-    let mut thrown = [0u32; Store::THROWN];
-    let mut released = [0u32; Store::RELEASED];
-    let r = store::discard(places, x, &mut thrown, &mut released);
+    let r = store::discard(places, x);
     heads::put_idle(head, q);
-    writing::put_done(reply, 262, r, &handed, &thrown, &released)
+    writing::put_done(reply, 262, r)
 }
 
 // End of sequence: the next begin is first after it.
@@ -195,13 +186,10 @@ fn abandon_at(head: &mut [u32; HEAD], c: Current, reply: &mut [u8]) -> Answer
     requires { ⌜ (nowAt (now head) ≡ Is c) × Roomy (now reply) ⌝ }
     ensures { λ r. ⌜ ((xs t : List ℕ) → Does (memory (now (head .entry)) xs t) (abandonOf (sessionIn (memory (now (head .entry)) xs t))) (now (reply .entry)) r (memory (now (head .exit)) xs t) (now (reply .exit))) ⌝ }
 {
-    let handed = [0u32; Store::HANDED];
-    let mut thrown = [0u32; Store::THROWN];
-    let mut released = [0u32; Store::RELEASED];
-    let r = store::drop_current(c, &mut thrown, &mut released);
+    let r = store::drop_current(c);
     let q = heads::prev_in(head);
     heads::put_idle(head, q);
-    writing::put_done(reply, 264, r, &handed, &thrown, &released)
+    writing::put_done(reply, 264, r)
 }
 
 // "Abandon throws away and releases the current picture; marks and outputs of its begin stay."

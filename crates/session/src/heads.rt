@@ -10,7 +10,8 @@ use paper::Surface;
 ghost use mathlib.Core.Path.{_≡_};
 ghost use Prim.Native.Nat.{_%_};
 ghost use lib.ListN.{length};
-ghost use Rattle.session.specs.View.{flagOf, flagWord, limitsAt, prevAt, currentAt, nowAt, refsAt, frontIn, idleFront, configuredFront, begunFront, endedFront};
+ghost use Rattle.session.specs.View.{Front, flagOf, flagWord, limitsAt, prevAt, currentAt, nowAt, refsAt, frontIn, idleFront, configuredFront, begunFront, endedFront};
+ghost use Rattle.session.specs.Laid.{headWords};
 
 // A flag is on unless its word is 0.
 pub(crate) fn flag_of(x: u32) -> bool
@@ -127,16 +128,26 @@ pub(crate) fn refs_in(h: &[u32; HEAD]) -> Refs
 
 // No picture is current, and this is the previous Tid0 picture.
 pub(crate) fn put_idle(h: &mut [u32; HEAD], q: Prev)
-    ensures { λ _. ⌜ frontIn (now (h .exit)) ≡ idleFront (frontIn (now (h .entry))) q ⌝ }
+    ensures front { λ _. ⌜ frontIn (now (h .exit)) ≡ idleFront (frontIn (now (h .entry))) q ⌝ }
+    ensures words { λ _. ⌜ ((f : Front) → now (h .entry) ≡ headWords f → now (h .exit) ≡ headWords (idleFront f q)) ⌝ }
 {
     count_head(*h);
     h[12] = 0;
+    h[13] = 0;
+    h[14] = 0;
+    h[15] = 0;
+    h[16] = 0;
+    h[17] = 0;
+    h[18] = 0;
+    h[19] = 0;
     h[20] = 0;
     h[21] = 0;
     h[22] = 0;
     match q {
         Prev::Nothing => {
             h[9] = 0;
+            h[10] = 0;
+            h[11] = 0;
         }
         Prev::Tid0 { lsb, msb } => {
             h[9] = 1;
@@ -148,7 +159,8 @@ pub(crate) fn put_idle(h: &mut [u32; HEAD], q: Prev)
 
 // What configure sets.
 pub(crate) fn put_limits(h: &mut [u32; HEAD], l: Limits)
-    ensures { λ _. ⌜ frontIn (now (h .exit)) ≡ configuredFront (frontIn (now (h .entry))) l ⌝ }
+    ensures front { λ _. ⌜ frontIn (now (h .exit)) ≡ configuredFront (frontIn (now (h .entry))) l ⌝ }
+    ensures words { λ _. ⌜ ((f : Front) → now (h .entry) ≡ headWords f → now (h .exit) ≡ headWords (configuredFront f l)) ⌝ }
 {
     count_head(*h);
     h[0] = 1;
@@ -161,7 +173,8 @@ pub(crate) fn put_limits(h: &mut [u32; HEAD], l: Limits)
 
 // A picture is current, with the sizes of its sets; the next begin is neither first nor after end of sequence, and has the next serial.
 pub(crate) fn put_begun(h: &mut [u32; HEAD], c: Current, x: Refs, next: u32)
-    ensures { λ _. ⌜ frontIn (now (h .exit)) ≡ begunFront (frontIn (now (h .entry))) c x next ⌝ }
+    ensures front { λ _. ⌜ frontIn (now (h .exit)) ≡ begunFront (frontIn (now (h .entry))) c x next ⌝ }
+    ensures words { λ _. ⌜ ((f : Front) → now (h .entry) ≡ headWords f → now (h .exit) ≡ headWords (begunFront f c x next)) ⌝ }
 {
     count_head(*h);
     let serial = c.serial;
@@ -184,7 +197,8 @@ pub(crate) fn put_begun(h: &mut [u32; HEAD], c: Current, x: Refs, next: u32)
 
 // The next begin is first after end of sequence.
 pub(crate) fn put_ended(h: &mut [u32; HEAD])
-    ensures { λ _. ⌜ frontIn (now (h .exit)) ≡ endedFront (frontIn (now (h .entry))) ⌝ }
+    ensures front { λ _. ⌜ frontIn (now (h .exit)) ≡ endedFront (frontIn (now (h .entry))) ⌝ }
+    ensures words { λ _. ⌜ ((f : Front) → now (h .entry) ≡ headWords f → now (h .exit) ≡ headWords (endedFront f)) ⌝ }
 {
     count_head(*h);
     h[2] = 1;

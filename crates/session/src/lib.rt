@@ -8,9 +8,11 @@ mod starting;
 mod writing;
 
 ghost use mathlib.Core.Path.{_≡_};
+ghost use lib.ListN.{replicate};
 ghost use Rattle.paper.specs.State.{fresh as freshSession};
 ghost use Rattle.session.specs.Numbered.{numberOf};
 ghost use Rattle.session.specs.View.{memory, sessionIn};
+ghost use Rattle.session.specs.Laid.{NormalMemory};
 ghost use Rattle.session.specs.Said.{Permitted};
 use store::Store;
 
@@ -70,7 +72,9 @@ pub fn fresh(
     sets: &mut [u32; Store::CAPACITY],
     places: &mut [u32; Store::WORDS],
 )
-    ensures { λ _. ⌜ sessionIn (memory (now (head .exit)) (now (sets .exit)) (now (places .exit))) ≡ freshSession ⌝ }
+    ensures session { λ _. ⌜ sessionIn (memory (now (head .exit)) (now (sets .exit)) (now (places .exit))) ≡ freshSession ⌝ }
+    ensures normal { λ _. ⌜ NormalMemory (memory (now (head .exit)) (now (sets .exit)) (now (places .exit))) ⌝ }
+    ensures blank { λ _. ⌜ now (sets .exit) ≡ replicate 16 0 ⌝ }
 {
     let store = Store::empty();
     *head = [0; HEAD];

@@ -7,6 +7,7 @@ use crate::reading;
 use crate::writing;
 use derivation::flag_bytes;
 use derivation::rows;
+use derivation::rows::RefList;
 use derivation::rows::Refs;
 use paper::Current;
 use paper::Now;
@@ -15,7 +16,7 @@ use store::Store;
 ghost use mathlib.Core.Path.{_≡_};
 ghost use mathlib.Core.Bool.{true, cond, not, _&&_, _||_};
 ghost use mathlib.Core.List.{List};
-ghost use Prim.Native.Nat.{ℕ, _≤_};
+ghost use Prim.Native.Nat.{ℕ};
 ghost use lib.Dec.{eqb, leb};
 ghost use Rattle.paper.specs.declared.Serial.{Serial};
 ghost use Rattle.paper.specs.Words.{anyB};
@@ -23,8 +24,7 @@ ghost use Rattle.paper.specs.Records.{sliceOf};
 ghost use Rattle.paper.specs.Ranges.{listsRanges};
 ghost use Rattle.paper.specs.RefLists.{list0, list1};
 ghost use Rattle.paper.specs.Step.{listsAt, listsOf};
-ghost use Rattle.derivation.specs.Lists.{refsIn};
-ghost use Rattle.store.specs.Tails.{serialsIn};
+ghost use Rattle.derivation.specs.Lists.{refsIn, HoldsList};
 ghost use Rattle.paper.specs.State as P;
 ghost use Rattle.paper.specs.Replies.{bytesOf};
 ghost use Rattle.paper.specs.Replies.Reply.{Listed};
@@ -119,53 +119,55 @@ fn judged(run: &[u32; Store::CAPACITY], refs: Refs, msg: &[u8]) -> Verdict
     Verdict::Fine
 }
 
-// List 0 of an accepted record; answers how many places it has.
-fn first_list(
-    run: &[u32; Store::CAPACITY],
-    refs: Refs,
-    c: Serial,
-    msg: &[u8],
-    into: &mut [u32; Store::CAPACITY],
-) -> usize
+// List 0 of an accepted record.
+fn first_list(run: &[u32; Store::CAPACITY], refs: Refs, c: Serial, msg: &[u8]) -> RefList
     requires { ⌜ WellFormed 3 (now msg) × (listsNumber (refsIn (now run) refs) c (sliceOf (now msg)) ≡ 0) ⌝ }
-    ensures { λ r. ⌜ (r ≤ 16) × (serialsIn (now (into .exit)) r ≡ list0 (refsIn (now (run .entry)) refs) c (sliceOf (now (msg .entry)))) ⌝ }
+    ensures { λ r. ⌜ HoldsList r (list0 (refsIn (now (run .entry)) refs) c (sliceOf (now (msg .entry)))) ⌝ }
 {
     let x = ask0(msg);
     if !x.uses {
-        return 0;
+        return rows::no_list();
     }
     let own = flag_bytes::bit2(wire::byte(msg, 5));
     let n = rows::candidate_count(run, refs, own);
     let last = rows::ends_with_own(own, x.modify, x.active, n);
     let e = 8 + reading::count0(msg);
-    let k = x.active;
-    let m = x.modify;
-    rows::build_ref_pic_list(run, refs, c, own, false, last, k, m, &msg[8..e], into);
-    k as usize
+    rows::build_ref_pic_list(
+        run,
+        refs,
+        c,
+        own,
+        false,
+        last,
+        x.active,
+        x.modify,
+        &msg[8..e],
+    )
 }
 
-// List 1 of an accepted record; answers how many places it has.
-fn second_list(
-    run: &[u32; Store::CAPACITY],
-    refs: Refs,
-    c: Serial,
-    msg: &[u8],
-    into: &mut [u32; Store::CAPACITY],
-) -> usize
+// List 1 of an accepted record.
+fn second_list(run: &[u32; Store::CAPACITY], refs: Refs, c: Serial, msg: &[u8]) -> RefList
     requires { ⌜ WellFormed 3 (now msg) × (listsNumber (refsIn (now run) refs) c (sliceOf (now msg)) ≡ 0) ⌝ }
-    ensures { λ r. ⌜ (r ≤ 16) × (serialsIn (now (into .exit)) r ≡ list1 (refsIn (now (run .entry)) refs) c (sliceOf (now (msg .entry)))) ⌝ }
+    ensures { λ r. ⌜ HoldsList r (list1 (refsIn (now (run .entry)) refs) c (sliceOf (now (msg .entry)))) ⌝ }
 {
     let y = ask1(msg);
     if !y.uses {
-        return 0;
+        return rows::no_list();
     }
     let own = flag_bytes::bit2(wire::byte(msg, 5));
     let a = 8 + reading::count0(msg);
     let b = a + reading::count1(msg);
-    let k = y.active;
-    let m = y.modify;
-    rows::build_ref_pic_list(run, refs, c, own, true, false, k, m, &msg[a..b], into);
-    k as usize
+    rows::build_ref_pic_list(
+        run,
+        refs,
+        c,
+        own,
+        true,
+        false,
+        y.active,
+        y.modify,
+        &msg[a..b],
+    )
 }
 
 // The lists of an accepted record.
@@ -179,11 +181,9 @@ fn listed(
     requires { ⌜ WellFormed 3 (now msg) × (listsNumber (refsIn (now run) refs) c (sliceOf (now msg)) ≡ 0) × Roomy (now reply) ⌝ }
     ensures { λ r. ⌜ Says (bytesOf (Listed (list0 (refsIn (now (run .entry)) refs) c (sliceOf (now (msg .entry)))) (list1 (refsIn (now (run .entry)) refs) c (sliceOf (now (msg .entry)))))) (now (reply .entry)) r (now (reply .exit)) ⌝ }
 {
-    let mut x = [0u32; Store::CAPACITY];
-    let mut y = [0u32; Store::CAPACITY];
-    let n = first_list(run, refs, c, msg, &mut x);
-    let m = second_list(run, refs, c, msg, &mut y);
-    writing::put_lists(reply, &x, n, &y, m)
+    let x = first_list(run, refs, c, msg);
+    let y = second_list(run, refs, c, msg);
+    writing::put_lists(reply, x, y)
 }
 
 // Lists with a current picture.

@@ -151,23 +151,12 @@ fn tell_begun(
     requires { ⌜ FewMembers x × Roomy (now reply) ⌝ }
     ensures { λ r. ⌜ Tells (now (head .entry)) (now (us .entry)) (now (vs .entry)) (now (places .entry)) t x (now (reply .entry)) r (now (places .exit)) (now (reply .exit)) ⌝ }
 {
-    let mut handed = [0u32; Store::HANDED];
-    let mut thrown = [0u32; Store::THROWN];
-    let mut released = [0u32; Store::RELEASED];
     let l = heads::limits_in(head);
     let f = t.flags;
     let starts = f.over & !heads::flag_of(head[2]);
-    let c = store::update_dpb_before_decoding(
-        places,
-        starts,
-        f.prior,
-        l,
-        &mut handed,
-        &mut thrown,
-        &mut released,
-    );
+    let c = store::update_dpb_before_decoding(places, starts, f.prior, l);
     let told = told_of(head[3], t);
-    writing::put_begun(reply, told, x, us, vs, c, &handed, &thrown, &released)
+    writing::put_begun(reply, told, x, us, vs, c)
 }
 
 // Steps 4 and 5 of a begin that nothing refuses, its reply and the session after it.

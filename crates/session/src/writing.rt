@@ -2,24 +2,25 @@
 use crate::Answer;
 use crate::Refusal;
 use crate::number;
+use derivation::rows::RefList;
 use paper::Serial;
 use paper::Shown;
 use paper::Surface;
 use store::Sizes;
 use store::Store;
-use store::Tally;
+use store::Tail;
 ghost use mathlib.Core.Path.{_≡_};
 ghost use mathlib.Core.List.{_++_};
-ghost use Prim.Native.Nat.{_+_, _*_, _≤_, _<_};
-ghost use lib.ListN.{length};
+ghost use Prim.Native.Nat.{_+_, _*_, _≤_};
+ghost use lib.ListN.{length, take};
 ghost use lib.Seq.{sets};
 ghost use Rattle.paper.specs.Words.{flat};
 ghost use Rattle.paper.specs.Numbers.{bytes16, serialNos, surfaceNos};
 ghost use Rattle.paper.specs.Replies.{shownBytes, words, tailBytes, framed, bytesOf};
 ghost use Rattle.paper.specs.Replies.Reply.{Listed};
 ghost use Rattle.paper.specs.Output.{quiet};
-ghost use Rattle.store.specs.Tails.{shownAt, shownIn, serialsIn, surfacesIn, tailIn};
-ghost use Rattle.session.specs.Written.{numbersFrom, toldBytes, sizesBytes, memberBytes, begunPart, FewMembers, FewTail};
+ghost use Rattle.store.specs.Tails.{tailIn, GoodTail};
+ghost use Rattle.session.specs.Written.{numbersFrom, toldBytes, sizesBytes, memberBytes, begunPart, listIn, FewMembers, Listable};
 ghost use Rattle.session.specs.Numbered.{numberOf};
 ghost use Rattle.session.specs.Said.{Roomy, Says, Refuses};
 
@@ -43,19 +44,6 @@ pub(crate) fn refuse(reply: &mut [u8], kind: u16, why: Refusal) -> Answer
     Answer { number: n, len }
 }
 
-// A picture handed out, from its three words.
-fn shown_at(handed: &[u32; Store::HANDED], i: usize) -> Shown
-    requires { ⌜ i < 32 ⌝ }
-    ensures { λ r. ⌜ r ≡ shownAt (now (handed .entry)) i ⌝ }
-{
-    let poc = wire::signed(handed[3 * i + 2]);
-    Shown {
-        serial: Serial(handed[3 * i]),
-        surface: Surface(handed[3 * i + 1]),
-        poc,
-    }
-}
-
 // "(serial u32, surface u32, POC i32)" of a picture handed out.
 fn put_shown(d: &mut [u8], at: usize, p: Shown) -> usize
     requires { ⌜ at + 12 ≤ length (now d) ⌝ }
@@ -69,13 +57,13 @@ fn put_shown(d: &mut [u8], at: usize, p: Shown) -> usize
 }
 
 // The first n pictures handed out, one after the other.
-fn put_handed(d: &mut [u8], at: usize, handed: &[u32; Store::HANDED], n: usize) -> usize
+fn put_handed(d: &mut [u8], at: usize, xs: [Shown; Store::CAPACITY], n: usize) -> usize
     requires { ⌜ (n ≤ 16) × (at + 12 * n ≤ length (now d)) ⌝ }
-    ensures { λ r. ⌜ (r ≡ at + 12 * n) × (now (d .exit) ≡ sets (now (d .entry)) at (flat shownBytes (shownIn (now (handed .entry)) n))) ⌝ }
+    ensures { λ r. ⌜ (r ≡ at + 12 * n) × (now (d .exit) ≡ sets (now (d .entry)) at (flat shownBytes (take n xs))) ⌝ }
 {
     let mut i = 0;
     while i < n {
-        let p = shown_at(handed, i);
+        let p = xs[i];
         put_shown(d, at + 12 * i, p);
         i += 1;
     }
@@ -83,26 +71,28 @@ fn put_handed(d: &mut [u8], at: usize, handed: &[u32; Store::HANDED], n: usize) 
 }
 
 // The first n serials thrown away, one after the other.
-fn put_thrown(d: &mut [u8], at: usize, xs: &[u32; Store::THROWN], n: usize) -> usize
+fn put_thrown(d: &mut [u8], at: usize, xs: [Serial; Store::TAIL], n: usize) -> usize
     requires { ⌜ (n ≤ 17) × (at + 4 * n ≤ length (now d)) ⌝ }
-    ensures { λ r. ⌜ (r ≡ at + 4 * n) × (now (d .exit) ≡ sets (now (d .entry)) at (words (serialNos (serialsIn (now (xs .entry)) n)))) ⌝ }
+    ensures { λ r. ⌜ (r ≡ at + 4 * n) × (now (d .exit) ≡ sets (now (d .entry)) at (words (serialNos (take n xs)))) ⌝ }
 {
     let mut i = 0;
     while i < n {
-        wire::put_u32(d, at + 4 * i, xs[i]);
+        let x = xs[i];
+        wire::put_u32(d, at + 4 * i, x.0);
         i += 1;
     }
     at + 4 * n
 }
 
 // The first n surfaces released, one after the other.
-fn put_released(d: &mut [u8], at: usize, xs: &[u32; Store::RELEASED], n: usize) -> usize
+fn put_released(d: &mut [u8], at: usize, xs: [Surface; Store::TAIL], n: usize) -> usize
     requires { ⌜ (n ≤ 17) × (at + 4 * n ≤ length (now d)) ⌝ }
-    ensures { λ r. ⌜ (r ≡ at + 4 * n) × (now (d .exit) ≡ sets (now (d .entry)) at (words (surfaceNos (surfacesIn (now (xs .entry)) n)))) ⌝ }
+    ensures { λ r. ⌜ (r ≡ at + 4 * n) × (now (d .exit) ≡ sets (now (d .entry)) at (words (surfaceNos (take n xs)))) ⌝ }
 {
     let mut i = 0;
     while i < n {
-        wire::put_u32(d, at + 4 * i, xs[i]);
+        let x = xs[i];
+        wire::put_u32(d, at + 4 * i, x.0);
         i += 1;
     }
     at + 4 * n
@@ -121,41 +111,45 @@ fn put_run(d: &mut [u8], at: usize, xs: &[u32; Store::CAPACITY], from: usize, n:
     at + 4 * n
 }
 
-// A tail: "u8 count and .. each picture handed out; u8 count and serials thrown away; u8 count and surfaces released".
-fn put_tail(
-    d: &mut [u8],
-    at: usize,
-    c: Tally,
-    handed: &[u32; Store::HANDED],
-    thrown: &[u32; Store::THROWN],
-    released: &[u32; Store::RELEASED],
-) -> usize
-    requires { ⌜ FewTail c × (at + 350 ≤ length (now d)) ⌝ }
-    ensures { λ r. ⌜ (r ≡ at + length (tailBytes (tailIn (now (handed .entry)) (now (thrown .entry)) (now (released .entry)) c))) × (now (d .exit) ≡ sets (now (d .entry)) at (tailBytes (tailIn (now (handed .entry)) (now (thrown .entry)) (now (released .entry)) c))) ⌝ }
+// The first n serials of a list, one after the other.
+fn put_serials(d: &mut [u8], at: usize, xs: [Serial; Store::CAPACITY], n: usize) -> usize
+    requires { ⌜ (n ≤ 16) × (at + 4 * n ≤ length (now d)) ⌝ }
+    ensures { λ r. ⌜ (r ≡ at + 4 * n) × (now (d .exit) ≡ sets (now (d .entry)) at (words (serialNos (take n xs)))) ⌝ }
 {
-    let n = c.thrown;
-    let m = c.released;
-    let a = wire::put_u8(d, at, c.handed as u8);
-    let b = put_handed(d, a, handed, c.handed);
-    let e = wire::put_u8(d, b, n as u8);
-    let f = put_thrown(d, e, thrown, n);
-    let g = wire::put_u8(d, f, m as u8);
-    put_released(d, g, released, m)
+    let mut i = 0;
+    while i < n {
+        let x = xs[i];
+        wire::put_u32(d, at + 4 * i, x.0);
+        i += 1;
+    }
+    at + 4 * n
+}
+
+// A tail: "u8 count and .. each picture handed out; u8 count and serials thrown away; u8 count and surfaces released".
+fn put_tail(d: &mut [u8], at: usize, x: Tail) -> usize
+    requires { ⌜ GoodTail x × (at + 350 ≤ length (now d)) ⌝ }
+    ensures { λ r. ⌜ (r ≡ at + length (tailBytes (tailIn x))) × (now (d .exit) ≡ sets (now (d .entry)) at (tailBytes (tailIn x))) ⌝ }
+{
+    let handed = x.handed;
+    let thrown = x.thrown;
+    let released = x.released;
+    let xs = handed.items;
+    let ys = thrown.items;
+    let zs = released.items;
+    let a = wire::put_u8(d, at, handed.len as u8);
+    let b = put_handed(d, a, xs, handed.len);
+    let c = wire::put_u8(d, b, thrown.len as u8);
+    let e = put_thrown(d, c, ys, thrown.len);
+    let f = wire::put_u8(d, e, released.len as u8);
+    put_released(d, f, zs, released.len)
 }
 
 // An accepted reply that holds the refusal number 0 and a tail, of reply kind `kind`.
-pub(crate) fn put_done(
-    d: &mut [u8],
-    kind: u16,
-    c: Tally,
-    handed: &[u32; Store::HANDED],
-    thrown: &[u32; Store::THROWN],
-    released: &[u32; Store::RELEASED],
-) -> Answer
-    requires { ⌜ FewTail c × Roomy (now d) ⌝ }
-    ensures { λ r. ⌜ Says (framed kind 0 (tailBytes (tailIn (now (handed .entry)) (now (thrown .entry)) (now (released .entry)) c))) (now (d .entry)) r (now (d .exit)) ⌝ }
+pub(crate) fn put_done(d: &mut [u8], kind: u16, x: Tail) -> Answer
+    requires { ⌜ GoodTail x × Roomy (now d) ⌝ }
+    ensures { λ r. ⌜ Says (framed kind 0 (tailBytes (tailIn x))) (now (d .entry)) r (now (d .exit)) ⌝ }
 {
-    let len = put_tail(d, 6, c, handed, thrown, released);
+    let len = put_tail(d, 6, x);
     put_head(d, (len - 4) as u16, kind, 0);
     Answer { number: 0, len }
 }
@@ -173,20 +167,18 @@ pub(crate) fn put_quiet(d: &mut [u8], kind: u16) -> Answer
 }
 
 // The reply to accepted lists: "0, two u8 lengths, the u32 serials".
-pub(crate) fn put_lists(
-    d: &mut [u8],
-    x: &[u32; Store::CAPACITY],
-    n: usize,
-    y: &[u32; Store::CAPACITY],
-    m: usize,
-) -> Answer
-    requires { ⌜ (n ≤ 16) × (m ≤ 16) × Roomy (now d) ⌝ }
-    ensures { λ r. ⌜ Says (bytesOf (Listed (serialsIn (now (x .entry)) n) (serialsIn (now (y .entry)) m))) (now (d .entry)) r (now (d .exit)) ⌝ }
+pub(crate) fn put_lists(d: &mut [u8], x: RefList, y: RefList) -> Answer
+    requires { ⌜ Listable x × Listable y × Roomy (now d) ⌝ }
+    ensures { λ r. ⌜ Says (bytesOf (Listed (listIn x) (listIn y))) (now (d .entry)) r (now (d .exit)) ⌝ }
 {
+    let n = x.len;
+    let m = y.len;
+    let xs = x.items;
+    let ys = y.items;
     let a = wire::put_u8(d, 6, n as u8);
     let b = wire::put_u8(d, a, m as u8);
-    let c = put_run(d, b, x, 0, n);
-    let len = put_run(d, c, y, 0, m);
+    let c = put_serials(d, b, xs, n);
+    let len = put_serials(d, c, ys, m);
     put_head(d, (len - 4) as u16, 259, 0);
     Answer { number: 0, len }
 }
@@ -247,18 +239,15 @@ pub(crate) fn put_begun(
     x: Sizes,
     us: &[u32; Store::CAPACITY],
     vs: &[u32; Store::CAPACITY],
-    c: Tally,
-    handed: &[u32; Store::HANDED],
-    thrown: &[u32; Store::THROWN],
-    released: &[u32; Store::RELEASED],
+    y: Tail,
 ) -> Answer
-    requires { ⌜ FewMembers x × (FewTail c × Roomy (now d)) ⌝ }
-    ensures { λ r. ⌜ Says (framed 258 0 (begunPart t x (now (us .entry)) (now (vs .entry)) ++ tailBytes (tailIn (now (handed .entry)) (now (thrown .entry)) (now (released .entry)) c))) (now (d .entry)) r (now (d .exit)) ⌝ }
+    requires { ⌜ FewMembers x × (GoodTail y × Roomy (now d)) ⌝ }
+    ensures { λ r. ⌜ Says (framed 258 0 (begunPart t x (now (us .entry)) (now (vs .entry)) ++ tailBytes (tailIn y))) (now (d .entry)) r (now (d .exit)) ⌝ }
 {
     let a = put_told(d, 6, t);
     let b = put_sizes(d, a, x);
     let e = put_members(d, b, x, us, vs);
-    let len = put_tail(d, e, c, handed, thrown, released);
+    let len = put_tail(d, e, y);
     put_head(d, (len - 4) as u16, 258, 0);
     Answer { number: 0, len }
 }

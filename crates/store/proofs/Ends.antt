@@ -1,17 +1,19 @@
--- Whole operations: what each part did, one after the other, is what the definition does; and an emptying throws nothing away, for none waits any more when the rest leaves. Assumes nothing.
-use mathlib.Core.Path.{_≡_, refl, sym, ap, _∙_}
-use mathlib.Core.Bool.{Bool, true, false, cond}
+-- Whole operations: what each part did, one after the other, is what the definition does; what may still happen has room; and an emptying throws nothing away, for none waits any more when the rest leaves. Assumes nothing.
+use mathlib.Core.Path.{_≡_, refl, sym, ap, _∙_, subst}
+use mathlib.Core.Bool.{Bool, true, false}
 use mathlib.Core.List.{List, [], _∷_, _++_, append-nil, append-assoc, map}
-use Prim.Native.Nat.{ℕ, _+_, _≤_, _<_, min}
+use Prim.Native.Nat.{ℕ, _+_, _≤_, _<_}
 use native.Mathlib.Omega.{arith}
 use lib.ListN.{length, set}
-use lib.Seq.{getD-set-same}
+use Rattle.derivation.specs.Pad.{Padded}
+use Rattle.derivation.proofs.Pad.{is-view, is-good, is-push}
 use Rattle.paper.proofs.Bools.{split}
 use Rattle.paper.proofs.Fits.{table-length}
-use Rattle.paper.proofs.Quiet.{emptied-throws}
-use Rattle.paper.specs.Words.{keep, table}
-use Rattle.paper.specs.Numbers.{aSerial, aSurface}
-use Rattle.paper.specs.Output.{Tail, Moved, still, andThen, inUse, handWhile, due, cleared, emptied, removed, beforeDecoding}
+use Rattle.paper.proofs.Quiet.{waitings, emptied-throws}
+use Rattle.paper.proofs.Sizes.{shrinks-removed, shrinks-emptied}
+use Rattle.paper.specs.Words.{keep}
+use Rattle.paper.specs.Output.{Moved, still, andThen, inUse, handWhile, due, cleared, emptied, removed, beforeDecoding}
+use Rattle.paper.specs.Output as Output
 use Rattle.paper.specs.Calls.{raised, finished, drained, dropped, discarded}
 use Rattle.paper.specs.Calls as Calls
 use Rattle.paper.specs.declared.Shown.{Shown}
@@ -22,61 +24,66 @@ use Rattle.paper.specs.declared.Limits.{Limits}
 use Rattle.paper.specs.declared.Current.{Current}
 use Rattle.paper.specs.declared.Now.the-variants.{Idle, Is}
 use Rattle.store.specs.Walks.{serialOf, surfaceOf}
-use Rattle.store.specs.Shelf.{pictureAt, pictures, stored, countIn}
-use Rattle.store.specs.Tails.{shownIn, serialsIn, surfacesIn, tailIn, movedIn, waits, unused}
-use Rattle.store.specs.Bumps.{turnsBy, Rounds, Leaves, Starts, Empties, Clears, Drops}
-use Rattle.store.specs.declared.Tally.{Tally}
+use Rattle.store.specs.Shelf.{word, pictureAt, pictures, stored, countIn, Tidy, NormalForm}
+use Rattle.store.specs.Tails.{HoldsHanded, HoldsThrown, HoldsReleased, handedIn, thrownIn, releasedIn, HoldsTail, GoodTail, movedIn, startedIn, clearedIn, Gathers, waits, unused}
+use Rattle.store.specs.Bumps.{turnsBy, Leaves}
+use Rattle.store.specs.declared.Handed.{Handed}
+use Rattle.store.specs.declared.Thrown.{Thrown}
+use Rattle.store.specs.declared.Released.{Released}
+use Rattle.store.specs.declared.Tail.{Tail}
 use Rattle.store.specs.declared.bumping.Rule.the-variants.{All, Due}
-use Rattle.store.proofs.Shelf.{table-same, word-more, elsewhere}
 use Rattle.store.proofs.Moves.{moves}
+use Rattle.store.proofs.Rounds.{gathers-is, gathers-good}
 
 -- ---- the places
 
--- the word behind the places says how many are used
-pub used-is : (t : List ℕ) (n : ℕ) → 97 ≤ length t → n ≤ 16 → stored (set t 96 n) ≡ pictures t n
-used-is t n room le =
-    let m : min n 16 ≡ n = omega arith in
-    ap (λ (k : ℕ). pictures (set t 96 n) (min k 16)) (getD-set-same t 96 n 0 (omega arith)) ∙ ap (pictures (set t 96 n)) m
-    ∙ table-same (pictureAt (set t 96 n)) (pictureAt t) n (λ i l. elsewhere t 16 0 n i (omega arith) (λ e. omega arith))
+-- in normal form the used places are those that the word says
+pub normal-tidy : (t : List ℕ) (n : ℕ) → n ≡ countIn t → NormalForm t → Tidy t n
+normal-tidy t n e h =
+    let few = h .few in
+    let k : word t 96 ≡ n = omega arith in
+    subst (λ (i : ℕ). Tidy t i) k (h .tidy)
 
-pub used-length : (t : List ℕ) → length (stored t) ≡ countIn t
-used-length t = table-length (pictureAt t) (countIn t)
+-- ---- what happened so far
 
--- ---- a call's beginning and end
-
-abbrev pub nothingYet : ℕ → Tally
-nothingYet n = record { stored = n; handed = 0; thrown = 0; released = 0 }
+-- what is stored may all be released
+pub gathers-room : {t : List ℕ} {n : ℕ} {h : Handed} {x : Released} {m : Moved} → Gathers t n h x m → x .len + n ≤ 17
+gathers-room {t} {n} g =
+    let r = g .released .long in
+    let e = ap length (g .pics) in
+    let o = table-length (pictureAt t) n in
+    omega (arith, g .frees)
 
 -- where nothing has happened yet
-first-still : (t hs ts rs : List ℕ) (c : Tally) (n : ℕ) → c ≡ nothingYet n → movedIn t hs ts rs c ≡ still (pictures t n)
-unfolding table
-first-still t hs ts rs c n e = ap (movedIn t hs ts rs) e
+first-still : (t : List ℕ) (n : ℕ) (x : Released) → HoldsReleased x [] → startedIn t n x ≡ still (pictures t n)
+first-still t n x b = moves refl refl refl (is-view b)
 
--- the same of the whole store
-pub begun : (t hs ts rs : List ℕ) (c : Tally) (n : ℕ) → c ≡ nothingYet n → n ≡ countIn t → movedIn t hs ts rs c ≡ still (stored t)
-begun t hs ts rs c n e k = first-still t hs ts rs c n e ∙ ap (λ (i : ℕ). still (pictures t i)) k
+-- the same of the whole store, where pictures are handed out and where it is cleared
+pub begun : (t : List ℕ) (n : ℕ) (x : Released) → HoldsReleased x [] → n ≡ countIn t → startedIn t n x ≡ still (stored t)
+begun t n x b k = first-still t n x b ∙ ap (λ (i : ℕ). still (pictures t i)) k
 
-pub leaves : (m : Moved) (t t′ hs ts rs : List ℕ) (r : Tally) → stored t′ ≡ pictures t (r .stored) → movedIn t hs ts rs r ≡ m → Leaves m t′ hs ts rs r
-leaves m t t′ hs ts rs r e h = record { pics = e ∙ ap (λ (x : Moved). x .pics) h; tail = ap (λ (x : Moved). x .tail) h }
+pub begun-clear : (t : List ℕ) (n : ℕ) (y : Thrown) (x : Released) → HoldsThrown y [] → HoldsReleased x [] → n ≡ countIn t → clearedIn t n y x ≡ still (stored t)
+begun-clear t n y x a b k = moves (ap (pictures t) k) refl (is-view a) (is-view b)
+
+-- ---- a call's end
+
+pub leaves : {m : Moved} {t₁ : List ℕ} {n : ℕ} {h : Handed} {x : Released} (t t′ : List ℕ) (y : Tail) → Gathers t₁ n h x m
+    → stored t′ ≡ pictures t₁ n → HoldsTail y (movedIn t₁ n h x .tail) → (NormalForm t → NormalForm t′) → Leaves m t t′ y
+leaves t t′ y g e a k = subst (λ (q : Moved). Leaves q t t′ y) (sym (gathers-is g)) (record { pics = e; tail = a; normal = k })
 
 -- the last thing left nothing in the store
-pub ends : (f : List Picture → Moved) (m n q : Moved) (t hs ts rs : List ℕ) (r : Tally) → n ≡ andThen m f → q ≡ m → f (m .pics) .pics ≡ [] → stored t ≡ [] → tailIn hs ts rs r ≡ andThen q f .tail → Leaves n t hs ts rs r
-ends f m n q t hs ts rs r e g z p h = rw e (record { pics = p ∙ sym z; tail = h ∙ ap (λ (x : Moved). andThen x f .tail) g })
+pub ends : (f : List Picture → Moved) (m n q : Moved) (t t′ : List ℕ) (y : Tail) → n ≡ andThen m f → q ≡ m
+    → f (m .pics) .pics ≡ [] → stored t′ ≡ [] → HoldsTail y (andThen q f .tail) → (NormalForm t → NormalForm t′) → Leaves n t t′ y
+ends f m n q t t′ y e g z p h k =
+    subst (λ (r : Moved). Leaves r t t′ y) (sym e) (record { pics = p ∙ sym z; tail = subst (λ (r : Moved). HoldsTail y (andThen r f .tail)) g h; normal = k })
 
 -- ---- finish
 
-pub finishes : (l : Limits) (x : Current) (ps : List Picture) (t hs rs t′ hs′ rs′ : List ℕ) (n : ℕ) (c r : Tally) → n < 16 → c ≡ nothingYet (n + 1)
-    → pictures t (n + 1) ≡ map raised ps ++ (Calls.stored x ∷ []) → Rounds (turnsBy (Due l false)) t hs rs c t′ hs′ rs′ r → Starts (finished l ps x) t′ hs′ rs′ r
+pub finishes : (l : Limits) (x : Current) (ps : List Picture) (t : List ℕ) (n : ℕ) (r : Released) → HoldsReleased r []
+    → pictures t n ≡ map raised ps ++ (Calls.stored x ∷ []) → andThen (startedIn t n r) (turnsBy (Due l false)) ≡ finished l ps x
 unfolding finished handWhile turnsBy
-finishes l x ps t hs rs t′ hs′ rs′ n c r lt e s h =
-    let g = rw e at h in
-    record {
-      moved = λ ts. h .moved ts ∙ ap (λ (m : Moved). andThen m (turnsBy (Due l false))) (first-still t hs ts rs c (n + 1) e) ∙ ap (turnsBy (Due l false)) s;
-      stored = omega (arith, g .stored);
-      handed = omega (arith, g .handed);
-      released = omega (arith, g .released);
-      thrown = g .thrown;
-    }
+finishes l x ps t n r b e =
+    ap (λ (m : Moved). andThen m (turnsBy (Due l false))) (first-still t n r b) ∙ ap (turnsBy (Due l false)) e
 
 -- ---- emptying and clearing
 
@@ -85,41 +92,60 @@ unfolding keep
 keep-everything [] = refl
 keep-everything (p ∷ ps) = rw (keep-everything ps)
 
-tails : {h h′ : List Shown} {t t′ : List Serial} {r r′ : List Surface} → h ≡ h′ → t ≡ t′ → r ≡ r′
-    → _≡_ {A = Tail} (record { handed = h; thrown = t; released = r }) (record { handed = h′; thrown = t′; released = r′ })
-tails p q o = λ i. record { handed = p i; thrown = q i; released = o i }
-
 -- all were handed out that wait, and those that are left leave
-pub empties : (t hs rs t₁ hs₁ rs₁ t′ rs′ : List ℕ) (c u : Tally) (k : ℕ) → Rounds (turnsBy All) t hs rs c t₁ hs₁ rs₁ u
-    → surfacesIn rs′ k ≡ surfacesIn rs₁ (u .released) ++ map surfaceOf (keep (unused true) (pictures t₁ (u .stored))) → stored t′ ≡ pictures t₁ 0
-    → Empties t hs rs c t′ hs₁ rs′ (record { stored = 0; handed = u .handed; thrown = u .thrown; released = k })
-unfolding table turnsBy emptied cleared
-empties t hs rs t₁ hs₁ rs₁ t′ rs′ c u k g f e = record { pics = e; tail = tail }
+pub empties : (t : List ℕ) (n : ℕ) (x : Released) (t₁ : List ℕ) (k : ℕ) (h₁ : Handed) (x₁ : Released) (y : Thrown) (r : Released) → Gathers t₁ k h₁ x₁ (andThen (startedIn t n x) (turnsBy All))
+    → HoldsReleased r (releasedIn x₁ ++ map surfaceOf (keep (unused true) (pictures t₁ k))) → HoldsThrown y []
+    → HoldsTail (record { handed = h₁; thrown = y; released = r }) (andThen (startedIn t n x) emptied .tail)
+unfolding turnsBy emptied cleared
+empties t n x t₁ k h₁ x₁ y r g f a =
+    record {
+      handed = subst (λ (l : List Shown). HoldsHanded h₁ l) (sym (append-nil (m .tail .handed))) (g .handed);
+      thrown = subst (λ (l : List Serial). HoldsThrown y l) (sym (emptied-throws ps)) a;
+      released = subst (λ (l : List Surface). HoldsReleased r l) all f;
+    }
   where
     ps : List Picture
-    ps = pictures t (c .stored)
+    ps = pictures t n
 
     m : Moved
     m = turnsBy All ps
 
-    tail : (ts : List ℕ) → tailIn hs₁ ts rs′ (record { stored = 0; handed = u .handed; thrown = u .thrown; released = k }) ≡ andThen (movedIn t hs ts rs c) emptied .tail
-    tail ts =
-        let h = g .moved ts in
-        tails (ap (λ (x : Moved). x .tail .handed) h ∙ ap (λ (l : List Shown). shownIn hs (c .handed) ++ l) (sym (append-nil (m .tail .handed))))
-        (ap (serialsIn ts) (g .thrown) ∙ sym (append-nil (serialsIn ts (c .thrown))) ∙ ap (λ (l : List Serial). serialsIn ts (c .thrown) ++ l) (sym (emptied-throws ps)))
-        (f ∙ ap (λ (l : List Picture). surfacesIn rs₁ (u .released) ++ map surfaceOf l) (keep-everything (pictures t₁ (u .stored)))
-        ∙ ap (λ (x : Moved). x .tail .released ++ map surfaceOf (x .pics)) h ∙ append-assoc (surfacesIn rs (c .released)) (m .tail .released) (map surfaceOf (m .pics)))
+    all : releasedIn x₁ ++ map surfaceOf (keep (unused true) (pictures t₁ k)) ≡ releasedIn x ++ (m .tail .released ++ map surfaceOf (m .pics))
+    all =
+        ap (λ (l : List Picture). releasedIn x₁ ++ map surfaceOf l) (keep-everything (pictures t₁ k) ∙ g .pics) ∙ ap (λ (l : List Surface). l ++ map surfaceOf (m .pics)) (is-view (g .released))
+        ∙ append-assoc (releasedIn x) (m .tail .released) (map surfaceOf (m .pics))
 
-pub clears : (t ts rs ts′ rs′ t′ : List ℕ) (c : Tally) (j k : ℕ) → serialsIn ts′ j ≡ serialsIn ts (c .thrown) ++ map serialOf (keep waits (pictures t (c .stored)))
-    → surfacesIn rs′ k ≡ surfacesIn rs (c .released) ++ map surfaceOf (keep (unused true) (pictures t (c .stored))) → stored t′ ≡ pictures t 0
-    → Clears t ts rs c t′ ts′ rs′ (record { stored = 0; handed = c .handed; thrown = j; released = k })
-unfolding table cleared
-clears t ts rs ts′ rs′ t′ c j k g f e =
+-- a tail that holds anything holds its own lists
+pub tail-good : {y : Tail} {o : Output.Tail} → HoldsTail y o → GoodTail y
+tail-good a = record { handed = is-good (a .handed); thrown = is-good (a .thrown); released = is-good (a .released) }
+
+-- what was handed out before an emptying has room in front of its tail, and the two are what happened
+module _ (t : List ℕ) (n : ℕ) (x : Released) (y : Tail) (a : HoldsTail y (andThen (startedIn t n x) emptied .tail)) (h : Handed) where
+  pub tail-room : {m : Moved} → Gathers t n h x m → h .len + y .handed .len ≤ 16
+  unfolding waitings
+  tail-room g =
+      let k = gathers-good g in
+      let w : length (emptied (pictures t n) .tail .handed) ≤ length (keep waits (pictures t n)) = omega (arith, shrinks-emptied (pictures t n) .shows) in
+      omega (arith, w, k .shows, k .handed .long, a .handed .long)
+
+  pub tail-after : (z : Tail) → HoldsTail z (record { handed = handedIn h ++ handedIn (y .handed); thrown = thrownIn (y .thrown); released = releasedIn (y .released) })
+      → HoldsTail z (andThen (movedIn t n h x) emptied .tail)
+  tail-after z b =
+      record {
+        handed = subst (λ (l : List Shown). HoldsHanded (z .handed) (handedIn h ++ l)) (is-view (a .handed)) (b .handed);
+        thrown = subst (λ (l : List Serial). HoldsThrown (z .thrown) l) (is-view (a .thrown)) (b .thrown);
+        released = subst (λ (l : List Surface). HoldsReleased (z .released) l) (is-view (a .released)) (b .released);
+      }
+
+pub clears : (t : List ℕ) (n : ℕ) (y : Thrown) (x : Released) (h₁ : Handed) (y₁ : Thrown) (x₁ : Released) → HoldsHanded h₁ [] → HoldsThrown y₁ (thrownIn y ++ map serialOf (keep waits (pictures t n)))
+    → HoldsReleased x₁ (releasedIn x ++ map surfaceOf (keep (unused true) (pictures t n)))
+    → HoldsTail (record { handed = h₁; thrown = y₁; released = x₁ }) (andThen (clearedIn t n y x) cleared .tail)
+unfolding cleared
+clears t n y x h₁ y₁ x₁ a g f =
     record {
-      pics = e;
-      tail = λ hs.
-          tails (sym (append-nil (shownIn hs (c .handed)))) g
-          (f ∙ ap (λ (l : List Picture). surfacesIn rs (c .released) ++ map surfaceOf l) (keep-everything (pictures t (c .stored))));
+      handed = a;
+      thrown = g;
+      released = subst (λ (l : List Picture). HoldsReleased x₁ (releasedIn x ++ map surfaceOf l)) (keep-everything (pictures t n)) f;
     }
 
 pub cleared-leaves : (ps : List Picture) → cleared ps .pics ≡ []
@@ -128,36 +154,36 @@ cleared-leaves ps = refl
 
 -- ---- room before a picture
 
-pub makes-room : (l : Limits) (t t₁ hs rs rs₁ : List ℕ) (n k j : ℕ) (t₂ hs₂ rs₂ t′ : List ℕ) (r : Tally) → n ≡ countIn t
-    → surfacesIn rs₁ j ≡ surfacesIn rs 0 ++ map surfaceOf (keep (unused false) (pictures t n)) → pictures t₁ k ≡ keep inUse (pictures t n)
-    → Rounds (turnsBy (Due l true)) t₁ hs rs₁ (record { stored = k; handed = 0; thrown = 0; released = j }) t₂ hs₂ rs₂ r → stored t′ ≡ pictures t₂ (r .stored)
-    → (ts : List ℕ) → Leaves (andThen (removed (stored t)) (handWhile (due true l))) t′ hs₂ ts rs₂ r
-unfolding table removed handWhile turnsBy
-makes-room l t t₁ hs rs rs₁ n k j t₂ hs₂ rs₂ t′ r e f p g s ts =
-    let o : movedIn t₁ hs ts rs₁ (record { stored = k; handed = 0; thrown = 0; released = j }) ≡ removed (pictures t n) = moves p refl refl f in
-    leaves (andThen (removed (stored t)) (handWhile (due true l))) t₂ t′ hs₂ ts rs₂ r s
-    (g .moved ts ∙ ap (λ (m : Moved). andThen m (turnsBy (Due l true))) (o ∙ ap (λ (i : ℕ). removed (pictures t i)) e))
+-- the unused were released and left
+module _ (t : List ℕ) (n : ℕ) (t₁ : List ℕ) (k : ℕ) (x x₁ : Released) (b : HoldsReleased x []) (f : HoldsReleased x₁ (releasedIn x ++ map surfaceOf (keep (unused false) (pictures t n))))
+    (e : pictures t₁ k ≡ keep inUse (pictures t n)) where
+  freed : HoldsReleased x₁ (map surfaceOf (keep (unused false) (pictures t n)))
+  freed = subst (λ (l : List Surface). HoldsReleased x₁ (l ++ map surfaceOf (keep (unused false) (pictures t n)))) (is-view b) f
+
+  pub removes-room : n ≤ 16 → x₁ .len + k ≤ 17
+  unfolding removed
+  removes-room le =
+      let o = table-length (pictureAt t) n in
+      let q = table-length (pictureAt t₁) k in
+      let s = shrinks-removed (pictures t n) in
+      omega (arith, s .frees, freed .long, ap length e)
+
+  pub makes-room : (l : Limits) → n ≡ countIn t → andThen (startedIn t₁ k x₁) (turnsBy (Due l true)) ≡ andThen (removed (stored t)) (handWhile (due true l))
+  unfolding removed handWhile turnsBy
+  makes-room l c = ap (λ (m : Moved). andThen m (turnsBy (Due l true))) (moves e refl refl (is-view freed) ∙ ap (λ (i : ℕ). removed (pictures t i)) c)
 
 -- ---- a current picture dropped
 
-pub drops : (c : Current) (ts rs : List ℕ) (b : Bool) → c .output ≡ b → 0 < length ts → 0 < length rs
-    → Drops c (set ts 0 (c .serial .0)) (set rs 0 (c .surface .0)) (record { stored = 0; handed = 0; thrown = cond b 1 0; released = 1 })
-unfolding table
-drops c ts rs b e lt lr =
-    record {
-      tail = λ hs. tails refl (thrown b ∙ ap (λ (d : Bool). cond d (c .serial ∷ []) []) (sym e)) (word-more aSurface rs 0 (c .surface .0) lr);
-      thrown = split b (λ y. rw y (omega arith)) (λ y. rw y (omega arith));
-      released = refl;
-    }
-  where
-    thrown : (d : Bool) → serialsIn (set ts 0 (c .serial .0)) (cond d 1 0) ≡ cond d (c .serial ∷ []) []
-    thrown true = word-more aSerial ts 0 (c .serial .0) lt
-    thrown false = refl
+-- one element where there was none
+pub first-one : {A : Type 0} {n : ℕ} {d : A} {a : List A} {m : ℕ} (x : A) → 0 < n → Padded n d a m [] → Padded n d (set a 0 x) 1 (x ∷ [])
+first-one {A} {n} {d} {a} x lt h = let e = h .long in subst (λ (k : ℕ). Padded n d (set a k x) (k + 1) (x ∷ [])) e (is-push h x (omega arith))
 
-pub dropped-first : (c : Current) (t hs ts rs : List ℕ) (n : ℕ) (d : Tally) → Drops c ts rs d
-    → movedIn t hs ts rs (record { stored = n; handed = 0; thrown = d .thrown; released = d .released }) ≡ record { pics = pictures t n; tail = dropped c }
-unfolding table
-dropped-first c t hs ts rs n d h = moves refl refl (ap (λ (x : Tail). x .thrown) (h .tail hs)) (ap (λ (x : Tail). x .released) (h .tail hs))
+-- at most one is thrown away
+pub drops-one : (c : Current) → length (dropped c .thrown) ≤ 1
+drops-one c = split (c .output) (λ e. rw e (omega arith)) (λ e. rw e (omega arith))
+
+pub dropped-first : (c : Current) (t : List ℕ) (n : ℕ) (d : Tail) → HoldsTail d (dropped c) → n ≡ countIn t → clearedIn t n (d .thrown) (d .released) ≡ record { pics = stored t; tail = dropped c }
+dropped-first c t n d h k = moves (ap (pictures t) k) refl (is-view (h .thrown)) (is-view (h .released))
 
 -- ---- the definitions, case by case
 

@@ -4,6 +4,7 @@ pub mod Marks
 pub mod Runs
 pub mod Searches
 pub mod Shelf
+pub mod Tidy
 pub mod Walks
 pub mod RawPart
 pub mod Handing

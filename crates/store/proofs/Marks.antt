@@ -12,7 +12,7 @@ use Rattle.paper.specs.declared.Serial.{Serial}
 use Rattle.paper.specs.declared.Picture.{Picture}
 use Rattle.paper.specs.declared.Wish.{Wish}
 use Rattle.paper.specs.declared.Mark.the-variants.{Unmarked}
-use Rattle.store.specs.Shelf.{stored}
+use Rattle.store.specs.Shelf.{stored, NormalForm}
 use Rattle.store.specs.Tails.{serialAt, serialsIn}
 use Rattle.store.specs.Runs.{answer, answers, marking, Joins, HoldsSets, MarksLong, KeepsMarks, Derives}
 use Rattle.store.specs.declared.Sizes.{Sizes}
@@ -92,7 +92,7 @@ short-append : (ps : List Picture) (a b : List Wish) → shortSet ps (a ++ b) �
 unfolding shortSet
 short-append ps a b = map-append (λ (w : Wish). firstOf (shortMatch w) ps) a b
 
-module _ {n : ℕ} {t us vs us₁ vs₁ us₂ vs₂ t′ us′ vs′ ls ms : List ℕ} {x y l : Runs} (M : ℕ) (ps : List Picture) (w : Wishes) (m : MarksLong M ps (w .lt) n t ls ms l)
+module _ {n : ℕ} {t₀ t us vs us₁ vs₁ us₂ vs₂ t′ us′ vs′ ls ms : List ℕ} {x y l : Runs} (M : ℕ) (ps : List Picture) (w : Wishes) (m : MarksLong M ps (w .lt) n t₀ t ls ms l)
     (g : Joins false M (stored t) (w .neg) us vs (record { used = 0; rest = 0 }) us₁ vs₁ x) (h : Joins false M (stored t) (w .pos) us₁ vs₁ x us₂ vs₂ y) (k : KeepsMarks t us₂ vs₂ y ls ms l t′ us′ vs′) where
   abbrev qs : List Picture
   qs = longMarked M ps w
@@ -117,14 +117,15 @@ module _ {n : ℕ} {t us vs us₁ vs₁ us₂ vs₂ t′ us′ vs′ ls ms : Lis
       h .rest ∙ ap₂ (λ (p q : List Serial). p ++ q) (g .rest ∙ found (keep unusedBy (w .neg))) (found (keep unusedBy (w .pos)))
       ∙ sym (short-append qs (keep unusedBy (w .neg)) (keep unusedBy (w .pos)))
 
-  pub derives : y .used + y .rest + (l .used + l .rest) ≤ 16
-      → Derives M ps w t′ us′ vs′ (sizesOf x y l)
+  pub derives : {t₁ : List ℕ} → (NormalForm t₁ → NormalForm t₀) → y .used + y .rest + (l .used + l .rest) ≤ 16 → Derives M ps w t₁ us t′ us′ vs′ (sizesOf x y l)
   unfolding setsOf marksOf
-  derives few =
+  derives f few =
       let s = setsOf M ps w in
       let c = m .used ∙ long-is M ps (keep usedBy (w .lt)) in
       let d = m .rest ∙ long-is M ps (keep unusedBy (w .lt)) in
       record {
         pics = kept-marks s t us₂ vs₂ t′ us′ vs′ ls ms x y l k curr-is foll-is c d ∙ ap (markOnly (inOrder s)) long-marked;
         sets = holds-sets s t us₂ vs₂ t′ us′ vs′ ls ms x y l k curr-is foll-is c d us₁ before-is few;
+        normal = λ a. k .normal (m .normal (f a));
+        behind = λ i a. k .behind i (omega arith) ∙ h .behind i (omega arith) ∙ g .behind i (omega arith);
       }

@@ -1,104 +1,77 @@
 -- A round: one picture handed out is one turn of the definition on the pictures themselves, and where none is due or none waits the turns that are left do nothing. Assumes nothing.
-use mathlib.Core.Path.{_≡_, refl, sym, ap, _∙_}
+use mathlib.Core.Path.{_≡_, refl, sym, ap, _∙_, subst}
 use mathlib.Core.Bool.{Bool, true, false, cond, not, _||_, or-false}
 use mathlib.Core.List.{List, [], _∷_, _++_, append-nil, map}
-use Prim.Native.Nat.{ℕ, _+_, _-_, _*_, _≤_, _<_}
+use Prim.Native.Nat.{ℕ, _+_, _-_, _≤_, _<_}
 use native.Mathlib.Omega.{arith}
-use lib.ListN.{length, set, length-set}
-use lib.Seq.{getD-set-same, getD-set-other}
+use lib.ListN.{length, set, length-append}
 use lib.Dec.{eqb}
-use mir.Syntax.{w32}
-use mir.Val.{SFits, toZ, ofZ}
-use mir.ValLaws.{toZ-ofZ}
 use borrow.Author.Tests.{eqb-true, eqb-false}
-use Rattle.paper.proofs.Bools.{not-both}
+use Rattle.derivation.proofs.Pad.{is-view, is-push}
+use Rattle.paper.proofs.Bools.{not-both, by-case}
 use Rattle.paper.proofs.Fits.{table-length}
+use Rattle.paper.proofs.Quiet.{waitings, few-wait}
+use Rattle.paper.proofs.Sizes.{Shrinks, shrinks-hand, shrinks-still}
 use Rattle.paper.specs.Words.{keep}
 use Rattle.paper.specs.State.{isMarked}
-use Rattle.paper.specs.Numbers.{aSerial, aSurface}
 use Rattle.paper.specs.Output.{Moved, still, andThen, turns, handOut, leave, done, shown, due, dueLate, dueFull}
 use Rattle.paper.specs.declared.Shown.{Shown}
-use Rattle.paper.specs.declared.Serial.{Serial}
+use Rattle.paper.specs.declared.Surface.{Surface}
 use Rattle.paper.specs.declared.Picture.{Picture}
 use Rattle.paper.specs.declared.Limits.{Limits}
 use Rattle.store.specs.Walks.{other}
-use Rattle.store.specs.Shelf.{word, pictureAt, pictures}
-use Rattle.store.specs.Tails.{shownAt, shownIn, serialsIn, surfacesIn, movedIn}
-use Rattle.store.specs.Bumps.{Scans, dueScan, alwaysBy, latencyBy, turnBy, turnsBy, handsOut, Settles, Bumps, Rounds}
-use Rattle.store.specs.declared.Tally.{Tally}
+use Rattle.store.specs.Shelf.{pictureAt, pictures, Tidy}
+use Rattle.store.specs.Tails.{HoldsHanded, HoldsReleased, GoodReleased, handedIn, releasedIn, movedIn, startedIn, waits, Gathers}
+use Rattle.store.specs.Bumps.{Scans, dueScan, alwaysBy, latencyBy, turnBy, turnsBy, handsOut, Bumps}
+use Rattle.store.specs.declared.Handed.{Handed}
+use Rattle.store.specs.declared.Released.{Released}
+use Rattle.store.specs.declared.bumping.Bumped.{Bumped}
 use Rattle.store.specs.declared.bumping.Scan.{Scan}
 use Rattle.store.specs.declared.bumping.Rule.{Rule}
 use Rattle.store.specs.declared.bumping.Rule.the-variants.{All, Due}
-use Rattle.store.proofs.Shelf.{table-next, word-more}
 use Rattle.store.proofs.Moves.{moves, turn-first, turn-more, turn-stuck, turn-last}
+use Rattle.store.proofs.Scans.{or-none}
 
--- ---- one row more in the tail
+-- ---- what the places and the tail so far hold
 
--- three words behind the first k rows
-module _ (hs : List ℕ) (k a b c : ℕ) (room : 3 * k + 3 ≤ length hs) where
-  abbrev h1 : List ℕ
-  h1 = set hs (3 * k) a
+pub gathers-is : {t : List ℕ} {n : ℕ} {h : Handed} {x : Released} {m : Moved} → Gathers t n h x m → m ≡ movedIn t n h x
+gathers-is g = moves (sym (g .pics)) (sym (is-view (g .handed))) (g .thrown) (sym (is-view (g .released)))
 
-  abbrev h2 : List ℕ
-  h2 = set h1 (3 * k + 1) b
+pub gathers-good : {t : List ℕ} {n : ℕ} {h : Handed} {x : Released} {m : Moved} → Gathers t n h x m → Gathers t n h x (movedIn t n h x)
+gathers-good {t} {n} {h} {x} {m} g = subst (Gathers t n h x) (gathers-is g) g
 
-  abbrev pub three : List ℕ
-  three = set h2 (3 * k + 2) c
+-- where none is handed out yet
+pub starts : (t : List ℕ) (n : ℕ) (h : Handed) (x : Released) → HoldsHanded h [] → GoodReleased x → n ≤ 16 → x .len + n ≤ 17 → Gathers t n h x (startedIn t n x)
+unfolding waitings
+starts t n h x a b le room =
+    let e = table-length (pictureAt t) n in
+    let w : length (keep waits (pictures t n)) ≤ length (pictures t n) = few-wait (pictures t n) in
+    record { pics = refl; handed = a; thrown = refl; released = b; places = le; shows = omega arith; frees = omega (arith, b .long) }
 
-  earlier : (j : ℕ) → j < 3 * k → word three j ≡ word hs j
-  earlier j lt =
-      getD-set-other h2 (3 * k + 2) j c 0 (λ e. omega arith) ∙ getD-set-other h1 (3 * k + 1) j b 0 (λ e. omega arith) ∙ getD-set-other hs (3 * k) j a 0 (λ e. omega arith)
+-- ---- a picture that is handed out leaves or stays
 
-  first : word three (3 * k) ≡ a
-  first =
-      getD-set-other h2 (3 * k + 2) (3 * k) c 0 (λ e. omega arith) ∙ getD-set-other h1 (3 * k + 1) (3 * k) b 0 (λ e. omega arith) ∙ getD-set-same hs (3 * k) a 0 (omega arith)
+module _ (always : Bool) (at : ℕ) (t : List ℕ) (n : ℕ) (t′ : List ℕ) (p : Picture) (e : p ≡ pictureAt t at) where
+  pub bumps-leave : (always || not (isMarked (p .mark))) ≡ true → (k : ℕ) → k ≤ n → pictures t′ k ≡ keep (other (p .serial)) (pictures t n) → (Tidy t n → Tidy t′ k)
+      → Bumps always at t n t′ (record { shown = shown p; leaves = true; stored = k })
+  bumps-leave w k le h y =
+      record {
+        shown = ap (λ (q : Picture). shown q) e;
+        leaves = sym w ∙ ap (λ (q : Picture). always || not (isMarked (q .mark))) e;
+        pics = h ∙ ap (λ (q : Picture). keep (other (q .serial)) (pictures t n)) e;
+        few = le;
+        tidy = y;
+      }
 
-  second : word three (3 * k + 1) ≡ b
-  second = getD-set-other h2 (3 * k + 2) (3 * k + 1) c 0 (λ e. omega arith) ∙ getD-set-same h1 (3 * k + 1) b 0 (omega (arith, length-set hs (3 * k) a))
-
-  third : word three (3 * k + 2) ≡ c
-  third = getD-set-same h2 (3 * k + 2) c 0 (omega (arith, length-set hs (3 * k) a, length-set h1 (3 * k + 1) b))
-
-  pub row-more : shownIn three (k + 1) ≡ shownIn hs k ++ (record { serial = aSerial a; surface = aSurface b; poc = toZ w32 c } ∷ [])
-  row-more =
-      table-next (shownAt three) (shownAt hs) k _ (λ i l. rw (earlier (3 * i) (omega arith), earlier (3 * i + 1) (omega arith), earlier (3 * i + 2) (omega arith))) (rw (first, second, third))
-
--- a row's own words
-pub own-row : (p : Shown) → SFits w32 (p .poc) → _≡_ {A = Shown} (record { serial = aSerial (p .serial .0); surface = aSurface (p .surface .0); poc = toZ w32 (ofZ w32 (p .poc)) }) p
-own-row p f = λ i. record { serial = p .serial; surface = p .surface; poc = toZ-ofZ w32 (p .poc) f i }
-
--- ---- one picture handed out
-
-module _ (p : Picture) (leaves : Bool) (t rs t′ : List ℕ) (c : Tally) where
-  pub settles-leave : leaves ≡ true → (n : ℕ) → n ≤ c .stored → pictures t′ n ≡ keep (other (p .serial)) (pictures t (c .stored)) → c .released < length rs
-      → Settles p leaves t rs c t′ (set rs (c .released) (p .surface .0)) (record { stored = n; handed = c .handed + 1; thrown = c .thrown; released = c .released + 1 })
-  settles-leave e n le h lt =
-      rw e (record { pics = h; freed = word-more aSurface rs (c .released) (p .surface .0) lt; counts = record { stored = le; handed = refl; thrown = refl; released = omega arith } })
-
-  pub settles-stay : leaves ≡ false → pictures t′ (c .stored) ≡ map (done (p .serial .0)) (pictures t (c .stored))
-      → Settles p leaves t rs c t′ rs (record { stored = c .stored; handed = c .handed + 1; thrown = c .thrown; released = c .released })
-  settles-stay e h =
-      rw e (record { pics = h; freed = sym (append-nil (surfacesIn rs (c .released))); counts = record { stored = omega arith; handed = refl; thrown = refl; released = omega arith } })
-
-shows : (b : Bool) (p : Picture) (ps : List Picture) → handsOut b p ps .tail .handed ≡ shown p ∷ []
-shows true p ps = refl
-shows false p ps = refl
-
-throws : (b : Bool) (p : Picture) (ps : List Picture) → handsOut b p ps .tail .thrown ≡ []
-throws true p ps = refl
-throws false p ps = refl
-
-pub bumps : (p : Picture) (b : Bool) (t hs rs t′ hs′ rs′ : List ℕ) (c r : Tally) → Settles p b t rs c t′ rs′ r → shownIn hs′ (c .handed + 1) ≡ shownIn hs (c .handed) ++ (shown p ∷ [])
-    → Bumps p b t hs rs c t′ hs′ rs′ r
-bumps p b t hs rs t′ hs′ rs′ c r s h =
-    let ps = pictures t (c .stored) in
-    record {
-      moved = λ ts.
-          moves (s .pics) (ap (shownIn hs′) (s .counts .handed) ∙ h ∙ ap (λ (l : List Shown). shownIn hs (c .handed) ++ l) (sym (shows b p ps)))
-          (ap (serialsIn ts) (s .counts .thrown) ∙ sym (append-nil (serialsIn ts (c .thrown))) ∙ ap (λ (l : List Serial). serialsIn ts (c .thrown) ++ l) (sym (throws b p ps)))
-          (s .freed);
-      counts = s .counts;
-    }
+  pub bumps-stay : (always || not (isMarked (p .mark))) ≡ false → pictures t′ n ≡ map (done (p .serial .0)) (pictures t n) → (Tidy t n → Tidy t′ n)
+      → Bumps always at t n t′ (record { shown = shown p; leaves = false; stored = n })
+  bumps-stay w h y =
+      record {
+        shown = ap (λ (q : Picture). shown q) e;
+        leaves = sym w ∙ ap (λ (q : Picture). always || not (isMarked (q .mark))) e;
+        pics = h ∙ ap (λ (q : Picture). map (done (q .serial .0)) (pictures t n)) e;
+        few = omega arith;
+        tidy = y;
+      }
 
 -- ---- the test of due, on a walk and on the pictures
 
@@ -147,64 +120,121 @@ module _ (t : List ℕ) (n : ℕ) (x : Scan) where
         go false true w q = found false w
         go false false w q = not-both true refl q
 
--- ---- a round: after i turns of n
+-- ---- one turn on the places and the tail
 
-pub record Turned (f : List Picture → Moved) (n i : ℕ) (t₀ hs₀ rs₀ : List ℕ) (c : Tally) (t hs rs : List ℕ) (r : Tally) : Type 0 where
-  pub moved : (ts : List ℕ) → andThen (movedIn t hs ts rs r) (turns (n - i) f) ≡ andThen (movedIn t₀ hs₀ ts rs₀ c) (turns n f)
-  pub turned : i ≤ n
-  pub stored : r .stored ≤ c .stored
-  pub handed : r .handed ≤ c .handed + i
-  pub thrown : r .thrown ≡ c .thrown
-  pub released : r .released ≤ c .released + i
+shows : (b : Bool) (p : Picture) (ps : List Picture) → handsOut b p ps .tail .handed ≡ shown p ∷ []
+shows true p ps = refl
+shows false p ps = refl
 
-module _ (rule : Rule) (t₀ hs₀ rs₀ : List ℕ) (c : Tally) where
-  abbrev pub Turning : ℕ → List ℕ → List ℕ → List ℕ → Tally → Type 0
-  Turning i t hs rs r = Turned (turnBy rule) (c .stored) i t₀ hs₀ rs₀ c t hs rs r
+throws : (b : Bool) (p : Picture) (ps : List Picture) → handsOut b p ps .tail .thrown ≡ []
+throws true p ps = refl
+throws false p ps = refl
 
-  pub turned-none : Turning 0 t₀ hs₀ rs₀ c
-  turned-none =
-      record {
-        moved = λ ts. turn-first (movedIn t₀ hs₀ ts rs₀ c) (turnBy rule) (c .stored);
-        turned = omega arith;
-        stored = omega arith;
-        handed = omega arith;
-        thrown = refl;
-        released = omega arith;
-      }
+shrinks-turn : (r : Rule) (ps : List Picture) → Shrinks ps (turnBy r ps)
+shrinks-turn All ps = shrinks-hand true ps
+shrinks-turn (Due l b) ps = by-case (Shrinks ps) (due b l ps) (handOut false ps) (still ps) (λ _. shrinks-hand false ps) (λ _. shrinks-still ps)
 
-  abbrev all : List ℕ → Moved
-  all ts = andThen (movedIn t₀ hs₀ ts rs₀ c) (turns (c .stored) (turnBy rule))
+-- one more in a part of the tail
+abbrev pub handedMore : Handed → Shown → Handed
+handedMore h y = record { items = set (h .items) (h .len) y; len = h .len + 1 }
 
-  module _ (i : ℕ) (t hs rs : List ℕ) (r : Tally) (g : Turning i t hs rs r) where
-    rounds : ((ts : List ℕ) → movedIn t hs ts rs r ≡ all ts) → Rounds (turnsBy rule) t₀ hs₀ rs₀ c t hs rs r
-    unfolding turnsBy
-    rounds h =
+abbrev pub releasedMore : Released → Surface → Released
+releasedMore x y = record { items = set (x .items) (x .len) y; len = x .len + 1 }
+
+module _ (rule : Rule) (t : List ℕ) (n : ℕ) (h : Handed) (x : Released) (g : Gathers t n h x (movedIn t n h x)) (s : Scan) (latency : ℕ) (sc : Scans t n latency s)
+    (e : latency ≡ latencyBy rule) (d : (eqb (s .waiting) 0 || not (dueScan rule s n)) ≡ false) where
+  abbrev ps : List Picture
+  ps = pictures t n
+
+  pub there : s .at < n
+  there = sc .some (eqb-false (s .waiting) 0 (or-none _ _ d)) .0
+
+  -- one waits, and may be handed out
+  pub handed-room : h .len < 16
+  handed-room =
+      let w : s .waiting ≡ 0 → ⊥ = eqb-false (s .waiting) 0 (or-none _ _ d) in
+      omega (arith, w, sc .waiting, g .shows, g .handed .long)
+
+  -- one is stored, and may be released
+  pub released-room : x .len < 17
+  released-room = omega (arith, there, table-length (pictureAt t) n, g .frees, g .released .long)
+
+  module _ (always : Bool) (t′ : List ℕ) (r : Bumped) (a : always ≡ alwaysBy rule) (b : Bumps always (s .at) t n t′ r) where
+    abbrev p : Picture
+    p = pictureAt t (s .at)
+
+    next : turnBy rule ps ≡ handsOut (r .leaves) p ps
+    next = turn-one t n s latency sc rule e d ∙ ap (λ (c : Bool). handsOut (c || not (isMarked (p .mark))) p ps) (sym a) ∙ ap (λ (c : Bool). handsOut c p ps) (sym (b .leaves))
+
+    -- its surface is released if it left
+    pub released-left : r .leaves ≡ true → HoldsReleased (releasedMore x (r .shown .surface)) (releasedIn x ++ turnBy rule ps .tail .released)
+    released-left w =
+        let q : turnBy rule ps ≡ leave ps p = next ∙ ap (λ (c : Bool). handsOut c p ps) w in
+        rw (q, b .shown) (is-push (g .released) (p .surface) released-room)
+
+    pub released-stay : r .leaves ≡ false → HoldsReleased x (releasedIn x ++ turnBy rule ps .tail .released)
+    released-stay w =
+        let q : turnBy rule ps .tail .released ≡ [] = ap (λ (m : Moved). m .tail .released) next ∙ ap (λ (c : Bool). handsOut c p ps .tail .released) w in
+        rw (q, append-nil (releasedIn x)) (g .released)
+
+    pub gathers-more : (x′ : Released) → HoldsReleased x′ (releasedIn x ++ turnBy rule ps .tail .released)
+        → Gathers t′ (r .stored) (handedMore h (r .shown)) x′ (andThen (movedIn t n h x) (turnBy rule))
+    unfolding waitings
+    gathers-more x′ o =
+        let z = shrinks-turn rule ps in
+        let w : turnBy rule ps .tail .handed ≡ r .shown ∷ [] = ap (λ (m : Moved). m .tail .handed) next ∙ shows (r .leaves) p ps ∙ ap (λ (y : Shown). y ∷ []) (sym (b .shown)) in
         record {
-          moved = λ ts. h ts ∙ ap (λ (k : ℕ). andThen (movedIn t₀ hs₀ ts rs₀ c) (turns k (turnBy rule))) (sym (table-length (pictureAt t₀) (c .stored)));
-          stored = g .stored;
-          handed = omega (arith, g .handed, g .turned);
-          thrown = g .thrown;
-          released = omega (arith, g .released, g .turned);
+          pics = b .pics ∙ ap (λ (m : Moved). m .pics) (sym next);
+          handed = rw w (is-push (g .handed) (r .shown) handed-room);
+          thrown = ap (λ (m : Moved). m .tail .thrown) next ∙ throws (r .leaves) p ps;
+          released = o;
+          places = omega (arith, b .few, g .places);
+          shows = omega (arith, z .shows, g .shows, length-append (handedIn h) (turnBy rule ps .tail .handed));
+          frees = omega (arith, z .frees, g .frees, length-append (releasedIn x) (turnBy rule ps .tail .released));
         }
 
-    pub turned-all : c .stored ≤ i → Rounds (turnsBy rule) t₀ hs₀ rs₀ c t hs rs r
-    turned-all le = rounds (λ ts. turn-last (movedIn t hs ts rs r) (turnBy rule) (c .stored) i (all ts) (g .moved ts) le)
+-- ---- a round: after i turns of n
 
-    module _ (x : Scan) (latency : ℕ) (s : Scans t (r .stored) latency x) (e : latency ≡ latencyBy rule) where
-      pub turned-stuck : (eqb (x .waiting) 0 || not (dueScan rule x (r .stored))) ≡ true → Rounds (turnsBy rule) t₀ hs₀ rs₀ c t hs rs r
-      turned-stuck d = rounds (λ ts. turn-stuck (movedIn t hs ts rs r) (turnBy rule) (c .stored) i (all ts) (g .moved ts) (turn-none t (r .stored) x latency s rule e d))
+pub record Turned (rule : Rule) (t₀ : List ℕ) (n : ℕ) (x₀ : Released) (i : ℕ) (t : List ℕ) (k : ℕ) (h : Handed) (x : Released) : Type 0 where
+  pub gathers : Gathers t k h x (movedIn t k h x)
+  pub moved : andThen (movedIn t k h x) (turns (n - i) (turnBy rule)) ≡ andThen (startedIn t₀ n x₀) (turns n (turnBy rule))
+  pub turned : i ≤ n
+  pub tidy : Tidy t₀ n → Tidy t k
 
-      pub turned-more : (t′ hs′ rs′ : List ℕ) (r′ : Tally) → i < c .stored → (eqb (x .waiting) 0 || not (dueScan rule x (r .stored))) ≡ false
-          → Bumps (pictureAt t (x .at)) (alwaysBy rule || not (isMarked (pictureAt t (x .at) .mark))) t hs rs r t′ hs′ rs′ r′ → Turning (i + 1) t′ hs′ rs′ r′
-      turned-more t′ hs′ rs′ r′ lt d b =
-          let o = turn-one t (r .stored) x latency s rule e d in
+module _ (rule : Rule) (t₀ : List ℕ) (n : ℕ) (x₀ : Released) where
+  abbrev all : Moved
+  all = andThen (startedIn t₀ n x₀) (turns n (turnBy rule))
+
+  pub turned-none : (h₀ : Handed) → Gathers t₀ n h₀ x₀ (startedIn t₀ n x₀) → Turned rule t₀ n x₀ 0 t₀ n h₀ x₀
+  turned-none h₀ g =
+      record {
+        gathers = gathers-good g;
+        moved = turn-first (movedIn t₀ n h₀ x₀) (turnBy rule) n ∙ ap (λ (m : Moved). andThen m (turns n (turnBy rule))) (sym (gathers-is g));
+        turned = omega arith;
+        tidy = λ y. y;
+      }
+
+  module _ (i : ℕ) (t : List ℕ) (k : ℕ) (h : Handed) (x : Released) (g : Turned rule t₀ n x₀ i t k h x) where
+    rounds : movedIn t k h x ≡ all → Gathers t k h x (andThen (startedIn t₀ n x₀) (turnsBy rule))
+    unfolding turnsBy
+    rounds q =
+        subst (Gathers t k h x) (q ∙ ap (λ (j : ℕ). andThen (startedIn t₀ n x₀) (turns j (turnBy rule))) (sym (table-length (pictureAt t₀) n))) (g .gathers)
+
+    pub turned-all : n ≤ i → Gathers t k h x (andThen (startedIn t₀ n x₀) (turnsBy rule))
+    turned-all le = rounds (turn-last (movedIn t k h x) (turnBy rule) n i all (g .moved) le)
+
+    module _ (s : Scan) (latency : ℕ) (sc : Scans t k latency s) (e : latency ≡ latencyBy rule) where
+      pub turned-stuck : (eqb (s .waiting) 0 || not (dueScan rule s k)) ≡ true → Gathers t k h x (andThen (startedIn t₀ n x₀) (turnsBy rule))
+      turned-stuck d = rounds (turn-stuck (movedIn t k h x) (turnBy rule) n i all (g .moved) (turn-none t k s latency sc rule e d))
+
+      pub turned-more : (d : (eqb (s .waiting) 0 || not (dueScan rule s k)) ≡ false) (always : Bool) (t′ : List ℕ) (r : Bumped) (x′ : Released) → always ≡ alwaysBy rule
+          → Bumps always (s .at) t k t′ r → HoldsReleased x′ (releasedIn x ++ turnBy rule (pictures t k) .tail .released) → i < n
+          → Turned rule t₀ n x₀ (i + 1) t′ (r .stored) (handedMore h (r .shown)) x′
+      turned-more d always t′ r x′ a b o lt =
+          let m = gathers-more rule t k h x (g .gathers) s latency sc e d always t′ r a b x′ o in
           record {
-            moved = λ ts.
-                turn-more (movedIn t hs ts rs r) (turnBy rule) (c .stored) i (all ts) (g .moved ts) (movedIn t′ hs′ ts rs′ r′)
-                (b .moved ts ∙ ap (λ (m : Moved). record { pics = m .pics; tail = record { handed = shownIn hs (r .handed) ++ m .tail .handed; thrown = serialsIn ts (r .thrown) ++ m .tail .thrown; released = surfacesIn rs (r .released) ++ m .tail .released } }) (sym o)) lt;
+            gathers = gathers-good m;
+            moved = turn-more (movedIn t k h x) (turnBy rule) n i all (g .moved) (movedIn t′ (r .stored) (handedMore h (r .shown)) x′) (sym (gathers-is m)) lt;
             turned = omega arith;
-            stored = omega (arith, g .stored, b .counts .stored);
-            handed = omega (arith, g .handed, b .counts .handed);
-            thrown = b .counts .thrown ∙ g .thrown;
-            released = omega (arith, g .released, b .counts .released);
+            tidy = λ y. b .tidy (g .tidy y);
           }

@@ -65,7 +65,7 @@ module _ (long : Bool) (M : ℕ) (ps : List Picture) (pocs : List ℤ) (hows : L
         few = omega arith;
         used = omega arith;
         rest = omega arith;
-        joins = record { used = sym (append-nil (serialsIn us (x .used))); rest = sym (append-nil (serialsIn vs (x .rest))) };
+        joins = record { used = sym (append-nil (serialsIn us (x .used))); rest = sym (append-nil (serialsIn vs (x .rest))); behind = λ j l. refl };
       }
 
   -- the run of those that f keeps
@@ -91,6 +91,7 @@ module _ (long : Bool) (M : ℕ) (ps : List Picture) (pocs : List ℤ) (hows : L
         joins = record {
           used = one-more usedBy i (serialsIn us₁ (y .used)) (serialsIn us₂ (z .used)) (serialsIn us (x .used)) (cond (w .used) (answer long M ps w ∷ []) []) (g .used) (h .joins .used) refl;
           rest = one-more unusedBy i (serialsIn vs₁ (y .rest)) (serialsIn vs₂ (z .rest)) (serialsIn vs (x .rest)) (cond (w .used) [] (answer long M ps w ∷ [])) (g .rest) (h .joins .rest) (other (w .used));
+          behind = λ j l. g .behind j l ∙ h .joins .behind j (omega (arith, g .counts .0));
         };
       }
     where

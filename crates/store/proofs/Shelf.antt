@@ -1,14 +1,15 @@
 -- A write to the words of one place changes the picture there and no other, for the words of two places are apart. Assumes nothing.
 use Prim.Native.Nat.{ℕ, zero, suc, _+_, _*_, _≤_, _<_, min}
-use lib.Dec.{leb}
-use borrow.Author.Tests.{leb-true, leb-false, le-leb, lt-leb}
+use lib.Dec.{eqb, leb}
+use borrow.Author.Tests.{eqb-true, eqb-false, leb-true, leb-false, le-leb, lt-leb}
 use Rattle.paper.proofs.Bools.{split}
+use Rattle.paper.proofs.Fits.{table-length}
 use mathlib.Core.Path.{_≡_, refl, sym, ap, ap₂, _∙_}
 use mathlib.Core.Bool.{Bool, true, false, _||_}
 use mathlib.Core.List.{List, [], _∷_, _++_, map, map-append, append-assoc, append-nil}
 use native.Mathlib.Omega.{arith}
 use native.Mathlib.Numerals.{add-one}
-use lib.ListN.{length, set, length-set}
+use lib.ListN.{length, getD, set, length-set}
 use lib.Seq.{getD-set-same, getD-set-other}
 use mir.Syntax.{w32}
 use mir.Val.{SFits, toZ, ofZ}
@@ -19,7 +20,7 @@ use Rattle.paper.specs.declared.Mark.{Mark}
 use Rattle.paper.specs.declared.Mark.the-variants.{Unmarked, ShortTerm, LongTerm}
 use Rattle.paper.specs.declared.Picture.{Picture}
 use Rattle.paper.specs.Sets.{marked}
-use Rattle.store.specs.Shelf.{word, flagOf, flagWord, markOf, markWord, pictureAt, pictures, Puts, quieted, recounted}
+use Rattle.store.specs.Shelf.{word, flagOf, flagWord, markOf, markWord, pictureAt, pictures, stored, countIn, Neat, Puts, quieted, recounted}
 
 pub flag-back : (b : Bool) → flagOf (flagWord b) ≡ b
 flag-back true = refl
@@ -61,7 +62,7 @@ table-join f a (suc b) =
 -- ---- words
 
 -- another word than the one written
-off : (t : List ℕ) (a b v : ℕ) → (b ≡ a → ⊥) → word (set t a v) b ≡ word t b
+pub off : (t : List ℕ) (a b v : ℕ) → (b ≡ a → ⊥) → word (set t a v) b ≡ word t b
 off t a b v n = getD-set-other t a b v 0 n
 
 -- one word behind the first k, each read by g
@@ -80,6 +81,40 @@ elsewhere t i f v j lf n =
     let o : (g : ℕ) → g < 6 → word (set t (6 * i + f) v) (6 * j + g) ≡ word t (6 * j + g) = λ g lg. off t (6 * i + f) (6 * j + g) v (λ e. n (omega arith)) in
     let o0 : word (set t (6 * i + f) v) (6 * j) ≡ word t (6 * j) = off t (6 * i + f) (6 * j) v (λ e. n (omega arith)) in
     rw (o0, o 1 (omega arith), o 2 (omega arith), o 3 (omega arith), o 4 (omega arith), o 5 (omega arith))
+
+-- ---- a place that is written as its picture is
+
+-- the words of a POC, a mark and a flag are those that what they say is written as; of the other three there is nothing to say
+pub record Spells (c d e : ℕ) : Type 0 where
+  pub poc : c ≡ ofZ w32 (toZ w32 c)
+  pub mark : d ≡ markWord (markOf d)
+  pub flag : e ≡ flagWord (flagOf e)
+
+module _ (t : List ℕ) (i : ℕ) where
+  pub spells : Neat t i → Spells (word t (6 * i + 2)) (word t (6 * i + 3)) (word t (6 * i + 4))
+  unfolding pictureAt
+  spells h = record { poc = ap (λ (l : List ℕ). getD l 2 0) h; mark = ap (λ (l : List ℕ). getD l 3 0) h; flag = ap (λ (l : List ℕ). getD l 4 0) h }
+
+  pub neat-by : {c d e : ℕ} → word t (6 * i + 2) ≡ c → word t (6 * i + 3) ≡ d → word t (6 * i + 4) ≡ e → Spells c d e → Neat t i
+  unfolding pictureAt
+  neat-by x y z h =
+      let s : Spells (word t (6 * i + 2)) (word t (6 * i + 3)) (word t (6 * i + 4)) = rw (x, y, z) h in
+      λ k. word t (6 * i) ∷ word t (6 * i + 1) ∷ s .poc k ∷ s .mark k ∷ s .flag k ∷ word t (6 * i + 5) ∷ []
+
+-- a mark and a flag in their own words
+pub mark-spells : (m : Mark) → markWord m ≡ markWord (markOf (markWord m))
+mark-spells m = ap markWord (sym (mark-back m))
+
+pub picture-spells : (p : Picture) → SFits w32 (p .poc) → Spells (ofZ w32 (p .poc)) (markWord (p .mark)) (flagWord (p .waiting))
+picture-spells p f = record { poc = ap (ofZ w32) (sym (toZ-ofZ w32 (p .poc) f)); mark = mark-spells (p .mark); flag = ap flagWord (sym (flag-back (p .waiting))) }
+
+-- every place is, if one is and the words of each other are as they were
+pub neat-but : (t t′ : List ℕ) (i : ℕ) → ((j g : ℕ) → (j ≡ i → ⊥) → j < 16 → g < 6 → word t′ (6 * j + g) ≡ word t (6 * j + g)) → (((j : ℕ) → j < 16 → Neat t j) → Neat t′ i)
+    → ((j : ℕ) → j < 16 → Neat t j) → (j : ℕ) → j < 16 → Neat t′ j
+neat-but t t′ i same at all j lt =
+    split (eqb j i)
+    (λ e. let x : j ≡ i = eqb-true j i e in rw x (at all))
+    (λ e. let n = eqb-false j i e in neat-by t′ j (same j 2 n lt (omega arith)) (same j 3 n lt (omega arith)) (same j 4 n lt (omega arith)) (spells t j (all j lt)))
 
 -- ---- one place written
 
@@ -129,10 +164,10 @@ module _ (t : List ℕ) (at a b c d e f : ℕ) (room : at + 6 ≤ length t) wher
   pub word5 : word six (at + 5) ≡ f
   word5 = getD-set-same t5 (at + 5) f 0 (omega (arith, length-set t at a, length-set t1 (at + 1) b, length-set t2 (at + 2) c, length-set t3 (at + 3) d, length-set t4 (at + 4) e))
 
-  pub beyond : (k : ℕ) → at + 6 ≤ k → word six k ≡ word t k
-  beyond k le =
-      off t5 (at + 5) k f (λ x. omega arith) ∙ off t4 (at + 4) k e (λ x. omega arith) ∙ off t3 (at + 3) k d (λ x. omega arith) ∙ off t2 (at + 2) k c (λ x. omega arith)
-      ∙ off t1 (at + 1) k b (λ x. omega arith) ∙ off t at k a (λ x. omega arith)
+  pub beside : (k : ℕ) → (at ≤ k → k < at + 6 → ⊥) → word six k ≡ word t k
+  beside k n =
+      off t5 (at + 5) k f (λ x. n (omega arith) (omega arith)) ∙ off t4 (at + 4) k e (λ x. n (omega arith) (omega arith)) ∙ off t3 (at + 3) k d (λ x. n (omega arith) (omega arith))
+      ∙ off t2 (at + 2) k c (λ x. n (omega arith) (omega arith)) ∙ off t1 (at + 1) k b (λ x. n (omega arith) (omega arith)) ∙ off t at k a (λ x. n (omega arith) (omega arith))
 
 -- six words at place i: what stands there is read from them
 module _ (t : List ℕ) (i a b c d e f : ℕ) (room : 97 ≤ length t) (lt : i < 16) where
@@ -147,14 +182,17 @@ module _ (t : List ℕ) (i a b c d e f : ℕ) (room : 97 ≤ length t) (lt : i <
       ∙ elsewhere (t3 t at a b c d e f (omega arith)) i 3 d j (omega arith) n ∙ elsewhere (t2 t at a b c d e f (omega arith)) i 2 c j (omega arith) n
       ∙ elsewhere (t1 t at a b c d e f (omega arith)) i 1 b j (omega arith) n ∙ ap (λ (k : ℕ). pictureAt (set t k a) j) z ∙ elsewhere t i 0 a j (omega arith) n
 
-  pub puts-words : Puts i (record { serial = aSerial a; surface = aSurface b; poc = toZ w32 c; mark = markOf d; waiting = flagOf e; count = f }) t now6
+  pub puts-words : (((j : ℕ) → j < 16 → Neat t j) → Spells c d e)
+      → Puts i (record { serial = aSerial a; surface = aSurface b; poc = toZ w32 c; mark = markOf d; waiting = flagOf e; count = f }) t now6
   unfolding pictureAt
-  puts-words =
+  puts-words h =
       let r : 6 * i + 6 ≤ length t = omega arith in
       record {
         at = rw (word0 t (6 * i) a b c d e f r, word1 t (6 * i) a b c d e f r, word2 t (6 * i) a b c d e f r, word3 t (6 * i) a b c d e f r, word4 t (6 * i) a b c d e f r, word5 t (6 * i) a b c d e f r);
         others = others6;
-        count = beyond t (6 * i) a b c d e f r 96 (omega arith);
+        count = beside t (6 * i) a b c d e f r 96 (λ x y. omega arith);
+        neat = neat-but t now6 i (λ j g n l lg. beside t (6 * i) a b c d e f r (6 * j + g) (λ x y. n (omega arith)))
+            (λ all. neat-by now6 i (word2 t (6 * i) a b c d e f r) (word3 t (6 * i) a b c d e f r) (word4 t (6 * i) a b c d e f r) (h all));
       }
 
 -- one word of place i
@@ -169,32 +207,55 @@ module _ (t : List ℕ) (i v : ℕ) (room : 97 ≤ length t) (lt : i < 16) where
   written f lf = getD-set-same t (6 * i + f) v 0 (omega arith)
 
   module _ (f : ℕ) (lf : f < 6) where
-    pub puts-one : (p : Picture) → pictureAt (set t (6 * i + f) v) i ≡ p → Puts i p t (set t (6 * i + f) v)
-    puts-one p e = record { at = e; others = λ j n. elsewhere t i f v j lf n; count = off t (6 * i + f) 96 v (λ x. omega arith) }
+    pub puts-one : (p : Picture) → pictureAt (set t (6 * i + f) v) i ≡ p → (Neat t i → Neat (set t (6 * i + f) v) i) → Puts i p t (set t (6 * i + f) v)
+    puts-one p e h =
+        record {
+          at = e;
+          others = λ j n. elsewhere t i f v j lf n;
+          count = off t (6 * i + f) 96 v (λ x. omega arith);
+          neat = neat-but t (set t (6 * i + f) v) i (λ j g n l lg. off t (6 * i + f) (6 * j + g) v (λ x. n (omega arith))) (λ all. h (all i lt));
+        }
 
   pub puts-mark : (m : Mark) → v ≡ markWord m → Puts i (marked m (pictureAt t i)) t (set t (6 * i + 3) v)
   unfolding pictureAt
   puts-mark m e =
       puts-one 3 (omega arith) (marked m (pictureAt t i))
       (rw (serial-kept 3 (omega arith), kept 3 1 (λ x. omega arith), kept 3 2 (λ x. omega arith), written 3 (omega arith), kept 3 4 (λ x. omega arith), kept 3 5 (λ x. omega arith), e, mark-back m))
+      (λ h. let s = spells t i h in
+      neat-by (set t (6 * i + 3) v) i (kept 3 2 (λ x. omega arith)) (written 3 (omega arith) ∙ e) (kept 3 4 (λ x. omega arith)) (record { poc = s .poc; mark = mark-spells m; flag = s .flag }))
 
   pub puts-count : Puts i (recounted v (pictureAt t i)) t (set t (6 * i + 5) v)
   unfolding pictureAt
   puts-count =
       puts-one 5 (omega arith) (recounted v (pictureAt t i))
       (rw (serial-kept 5 (omega arith), kept 5 1 (λ x. omega arith), kept 5 2 (λ x. omega arith), kept 5 3 (λ x. omega arith), kept 5 4 (λ x. omega arith), written 5 (omega arith)))
+      (λ h. neat-by (set t (6 * i + 5) v) i (kept 5 2 (λ x. omega arith)) (kept 5 3 (λ x. omega arith)) (kept 5 4 (λ x. omega arith)) (spells t i h))
 
 pub puts-quiet : (t : List ℕ) (i : ℕ) → 97 ≤ length t → i < 16 → Puts i (quieted (pictureAt t i)) t (set t (6 * i + 4) 0)
 unfolding pictureAt
 puts-quiet t i room lt =
     puts-one t i 0 room lt 4 (omega arith) (quieted (pictureAt t i))
     (rw (serial-kept t i 0 room lt 4 (omega arith), kept t i 0 room lt 4 1 (λ x. omega arith), kept t i 0 room lt 4 2 (λ x. omega arith), kept t i 0 room lt 4 3 (λ x. omega arith), written t i 0 room lt 4 (omega arith), kept t i 0 room lt 4 5 (λ x. omega arith)))
+    (λ h. let s = spells t i h in
+    neat-by (set t (6 * i + 4) 0) i (kept t i 0 room lt 4 2 (λ x. omega arith)) (kept t i 0 room lt 4 3 (λ x. omega arith)) (written t i 0 room lt 4 (omega arith)) (record { poc = s .poc; mark = s .mark; flag = refl }))
 
 -- a picture's own words
 pub own-words : (p : Picture) → SFits w32 (p .poc)
     → _≡_ {A = Picture} (record { serial = aSerial (p .serial .0); surface = aSurface (p .surface .0); poc = toZ w32 (ofZ w32 (p .poc)); mark = markOf (markWord (p .mark)); waiting = flagOf (flagWord (p .waiting)); count = p .count }) p
 own-words p f =
     λ i. record { serial = p .serial; surface = p .surface; poc = toZ-ofZ w32 (p .poc) f i; mark = mark-back (p .mark) i; waiting = flag-back (p .waiting) i; count = p .count }
+
+-- ---- how many are used
+
+-- the word behind the places says it
+pub used-is : (t : List ℕ) (n : ℕ) → 97 ≤ length t → n ≤ 16 → stored (set t 96 n) ≡ pictures t n
+used-is t n room le =
+    let m : min n 16 ≡ n = omega arith in
+    ap (λ (k : ℕ). pictures (set t 96 n) (min k 16)) (getD-set-same t 96 n 0 (omega arith)) ∙ ap (pictures (set t 96 n)) m
+    ∙ table-same (pictureAt (set t 96 n)) (pictureAt t) n (λ i l. elsewhere t 16 0 n i (omega arith) (λ e. omega arith))
+
+pub used-length : (t : List ℕ) → length (stored t) ≡ countIn t
+used-length t = table-length (pictureAt t) (countIn t)
 
 -- the lesser of the capacity and 16 is compared
 pub full-is : (k r n : ℕ) → r ≤ 16 → r ≡ n → (leb k r || leb 16 r) ≡ leb (min k 16) n

@@ -2,27 +2,36 @@
 use Prim.Native.Nat.{ℕ, _+_}
 use mathlib.Core.Path.{_≡_, sym, _∙_}
 use mathlib.Core.List.{List}
+use Rattle.derivation.proofs.Pad.{one-array}
 use Rattle.paper.specs.Output.{Moved}
+use Rattle.paper.specs.Output as Output
 use Rattle.paper.specs.Sets.{Wishes}
-use Rattle.paper.specs.declared.Current.{Current}
 use Rattle.paper.specs.declared.Picture.{Picture}
 use Rattle.store.specs.Shelf.{stored}
-use Rattle.store.specs.Tails.{tailIn, serialsIn}
-use Rattle.store.specs.Bumps.{Leaves, Drops}
+use Rattle.store.specs.Tails.{HoldsTail, serialsIn}
+use Rattle.store.specs.Bumps.{Leaves}
 use Rattle.store.specs.Runs.{Derives}
-use Rattle.store.specs.declared.Tally.{Tally}
+use Rattle.store.specs.declared.Tail.{Tail}
 use Rattle.store.specs.declared.Sizes.{Sizes}
 
--- step 5, finish, drain, discard
-pub one-outcome : {m : Moved} {t t′ hs hs′ ts ts′ rs rs′ : List ℕ} {r r′ : Tally} → Leaves m t hs ts rs r → Leaves m t′ hs′ ts′ rs′ r′ → (stored t ≡ stored t′) × (tailIn hs ts rs r ≡ tailIn hs′ ts′ rs′ r′)
-one-outcome a b = (a .pics ∙ sym (b .pics), a .tail ∙ sym (b .tail))
+-- a tail, as what abandon drops
+pub one-dropped : {x y : Tail} {a : Output.Tail} → HoldsTail x a → HoldsTail y a → x ≡ y
+one-dropped p q =
+    let h = one-array (p .handed) (q .handed) in
+    let t = one-array (p .thrown) (q .thrown) in
+    let r = one-array (p .released) (q .released) in
+    λ i. record {
+      handed = record { items = h .0 i; len = h .1 i };
+      thrown = record { items = t .0 i; len = t .1 i };
+      released = record { items = r .0 i; len = r .1 i };
+    }
 
--- what abandon drops
-pub one-dropped : {c : Current} {ts ts′ rs rs′ : List ℕ} {r r′ : Tally} (hs hs′ : List ℕ) → Drops c ts rs r → Drops c ts′ rs′ r′ → tailIn hs ts rs r ≡ tailIn hs′ ts′ rs′ r′
-one-dropped hs hs′ a b = a .tail hs ∙ sym (b .tail hs′)
+-- step 5, finish, drain, discard
+pub one-outcome : {m : Moved} {t₀ t t′ : List ℕ} {x y : Tail} → Leaves m t₀ t x → Leaves m t₀ t′ y → (stored t ≡ stored t′) × (x ≡ y)
+one-outcome a b = (a .pics ∙ sym (b .pics), one-dropped (a .tail) (b .tail))
 
 -- step 4
-pub one-derived : {M : ℕ} {ps : List Picture} {w : Wishes} {t t′ us us′ vs vs′ : List ℕ} {r r′ : Sizes} → Derives M ps w t us vs r → Derives M ps w t′ us′ vs′ r′
+pub one-derived : {M : ℕ} {ps : List Picture} {w : Wishes} {t₀ us₀ t t′ us us′ vs vs′ : List ℕ} {r r′ : Sizes} → Derives M ps w t₀ us₀ t us vs r → Derives M ps w t₀ us₀ t′ us′ vs′ r′
     → (stored t ≡ stored t′) × (r ≡ r′) × (serialsIn us (r .before + r .after + r .long) ≡ serialsIn us′ (r′ .before + r′ .after + r′ .long)) × (serialsIn vs (r .foll + r .«lt_foll») ≡ serialsIn vs′ (r′ .foll + r′ .«lt_foll»))
 one-derived a b =
     let x = a .sets in

@@ -1,19 +1,19 @@
 -- A store in lent words: sixteen places of six words, and behind them how many are used. Any words are some store: a length over 16 counts as 16, a flag is
 -- on unless its word is 0, and a mark that is no number of one is none.
-use Prim.Native.Nat.{ℕ, _+_, _*_, min}
+use Prim.Native.Nat.{ℕ, _+_, _*_, _≤_, _<_, min}
 use mathlib.Core.Path.{_≡_}
-use mathlib.Core.Bool.{Bool, true, false, cond, not}
-use mathlib.Core.List.{List, map}
+use mathlib.Core.Bool.{Bool, false, cond, not}
+use mathlib.Core.List.{List, [], _∷_, map}
 use lib.ListN.{getD}
 use lib.Dec.{eqb}
-use lib.IntN.{pos}
 use mir.Syntax.{w32}
-use mir.Val.{toZ}
+use mir.Val.{toZ, ofZ}
 use Rattle.paper.specs.Words.{table}
 use Rattle.paper.specs.Numbers.{aSerial, aSurface}
 use Rattle.paper.specs.declared.Mark.{Mark}
 use Rattle.paper.specs.declared.Mark.the-variants.{Unmarked, ShortTerm, LongTerm}
 use Rattle.paper.specs.declared.Picture.{Picture}
+use Rattle.store.specs.Walks.{blank}
 
 abbrev pub word : List ℕ → ℕ → ℕ
 word t i = getD t i 0
@@ -55,16 +55,43 @@ countIn t = min (word t 96) 16
 abbrev pub stored : List ℕ → List Picture
 stored t = pictures t (countIn t)
 
--- p is at place i now; all else is as it was
+-- ---- the normal form: blank behind the length
+
+-- the six words at place i, and those that a picture is written as
+abbrev pub wordsAt : List ℕ → ℕ → List ℕ
+wordsAt t i = word t (6 * i) ∷ word t (6 * i + 1) ∷ word t (6 * i + 2) ∷ word t (6 * i + 3) ∷ word t (6 * i + 4) ∷ word t (6 * i + 5) ∷ []
+
+abbrev pub pictureWords : Picture → List ℕ
+pictureWords p = p .serial .0 ∷ p .surface .0 ∷ ofZ w32 (p .poc) ∷ markWord (p .mark) ∷ flagWord (p .waiting) ∷ p .count ∷ []
+
+-- place i is written as its picture is
+abbrev pub Neat : List ℕ → ℕ → Type 0
+Neat t i = wordsAt t i ≡ pictureWords (pictureAt t i)
+
+-- every place is, and behind the first n there is none
+pub record Tidy (t : List ℕ) (n : ℕ) : Type 0 where
+  pub neat : (i : ℕ) → i < 16 → Neat t i
+  pub behind : (i : ℕ) → n ≤ i → i < 16 → pictureAt t i ≡ blank
+
+-- a store in normal form
+pub record NormalForm (t : List ℕ) : Type 0 where
+  pub few : word t 96 ≤ 16
+  pub tidy : Tidy t (word t 96)
+
+-- ---- changes where pictures stand
+
+-- p is at place i now; all else is as it was, and where every place was written as its picture is, every place is
 pub record Puts (i : ℕ) (p : Picture) (before after : List ℕ) : Type 0 where
   pub at : pictureAt after i ≡ p
   pub others : (j : ℕ) → (j ≡ i → ⊥) → pictureAt after j ≡ pictureAt before j
   pub count : word after 96 ≡ word before 96
+  pub neat : ((j : ℕ) → j < 16 → Neat before j) → (j : ℕ) → j < 16 → Neat after j
 
 -- each stored picture changed where it stands
 pub record Changes (g : Picture → Picture) (before after : List ℕ) : Type 0 where
   pub pics : stored after ≡ map g (stored before)
   pub count : word after 96 ≡ word before 96
+  pub normal : NormalForm before → NormalForm after
 
 -- "it no longer waits", and a count
 abbrev pub quieted : Picture → Picture

@@ -1,48 +1,107 @@
--- A tail in lent words: three words for each picture handed out, one for each serial thrown away, one for each surface released, and how many of each.
-use Prim.Native.Nat.{ℕ, _+_, _*_, _≤_, _<_}
+-- A tail by value: the pictures handed out, the serials thrown away and the surfaces released, each in places of its own type with their number beside them, and
+-- blank behind it.
+use Prim.Native.Nat.{ℕ, _+_, _≤_}
 use mathlib.Core.Path.{_≡_}
-use mathlib.Core.Bool.{Bool, true, false, cond, not, _||_}
-use mathlib.Core.List.{List, map}
+use mathlib.Core.Bool.{Bool, not, _||_}
+use mathlib.Core.List.{List, []}
 use lib.ListN.{length}
-use mir.Syntax.{w32}
-use mir.Val.{toZ}
-use Rattle.paper.specs.Words.{table}
-use Rattle.paper.specs.Numbers.{aSerial, aSurface}
-use Rattle.paper.specs.Output.{Tail, Moved, inUse}
+use lib.IntN.{pos}
+use Rattle.paper.specs.Words.{table, keep}
+use Rattle.paper.specs.Numbers.{aSerial}
+use Rattle.paper.specs.Output.{Moved, inUse}
+use Rattle.paper.specs.Output as Output
 use Rattle.paper.specs.declared.Picture.{Picture}
 use Rattle.paper.specs.declared.Serial.{Serial}
 use Rattle.paper.specs.declared.Surface.{Surface}
 use Rattle.paper.specs.declared.Shown.{Shown}
+use Rattle.derivation.specs.Pad.{Padded, used}
+use Rattle.derivation.specs.Lists.{blankSerial}
 use Rattle.store.specs.Shelf.{word, pictures}
-use Rattle.store.specs.declared.Tally.{Tally}
+use Rattle.store.specs.declared.Handed.{Handed}
+use Rattle.store.specs.declared.Thrown.{Thrown}
+use Rattle.store.specs.declared.Released.{Released}
+use Rattle.store.specs.declared.Tail.{Tail}
 
-abbrev pub shownAt : List ℕ → ℕ → Shown
-shownAt hs i = record { serial = aSerial (word hs (3 * i)); surface = aSurface (word hs (3 * i + 1)); poc = toZ w32 (word hs (3 * i + 2)) }
-
+-- the serials in the first n of lent words
 abbrev pub serialAt : List ℕ → ℕ → Serial
 serialAt xs i = aSerial (word xs i)
-
-abbrev pub surfaceAt : List ℕ → ℕ → Surface
-surfaceAt xs i = aSurface (word xs i)
-
-abbrev pub shownIn : List ℕ → ℕ → List Shown
-shownIn hs n = table (shownAt hs) n
 
 abbrev pub serialsIn : List ℕ → ℕ → List Serial
 serialsIn xs n = table (serialAt xs) n
 
-abbrev pub surfacesIn : List ℕ → ℕ → List Surface
-surfacesIn xs n = table (surfaceAt xs) n
+-- ---- the parts of a tail
 
-abbrev pub tailIn : List ℕ → List ℕ → List ℕ → Tally → Tail
-tailIn hs ts rs c = record { handed = shownIn hs (c .handed); thrown = serialsIn ts (c .thrown); released = surfacesIn rs (c .released) }
+abbrev pub noSurface : Surface
+noSurface = record { 0 = 0 }
 
--- the store and the tail so far
-abbrev pub movedIn : List ℕ → List ℕ → List ℕ → List ℕ → Tally → Moved
-movedIn t hs ts rs c = record { pics = pictures t (c .stored); tail = tailIn hs ts rs c }
+abbrev pub noShown : Shown
+noShown = record { serial = blankSerial; surface = noSurface; poc = pos 0 }
+
+abbrev pub HoldsHanded : Handed → List Shown → Type 0
+HoldsHanded h xs = Padded 16 noShown (h .items) (h .len) xs
+
+abbrev pub HoldsThrown : Thrown → List Serial → Type 0
+HoldsThrown y xs = Padded 17 blankSerial (y .items) (y .len) xs
+
+abbrev pub HoldsReleased : Released → List Surface → Type 0
+HoldsReleased x xs = Padded 17 noSurface (x .items) (x .len) xs
+
+-- what they hold
+abbrev pub handedIn : Handed → List Shown
+handedIn h = used (h .len) (h .items)
+
+abbrev pub thrownIn : Thrown → List Serial
+thrownIn y = used (y .len) (y .items)
+
+abbrev pub releasedIn : Released → List Surface
+releasedIn x = used (x .len) (x .items)
+
+abbrev pub GoodHanded : Handed → Type 0
+GoodHanded h = HoldsHanded h (handedIn h)
+
+abbrev pub GoodThrown : Thrown → Type 0
+GoodThrown y = HoldsThrown y (thrownIn y)
+
+abbrev pub GoodReleased : Released → Type 0
+GoodReleased x = HoldsReleased x (releasedIn x)
+
+-- ---- a whole tail
+
+pub record HoldsTail (x : Tail) (y : Output.Tail) : Type 0 where
+  pub handed : HoldsHanded (x .handed) (y .handed)
+  pub thrown : HoldsThrown (x .thrown) (y .thrown)
+  pub released : HoldsReleased (x .released) (y .released)
+
+abbrev pub tailIn : Tail → Output.Tail
+tailIn x = record { handed = handedIn (x .handed); thrown = thrownIn (x .thrown); released = releasedIn (x .released) }
+
+abbrev pub GoodTail : Tail → Type 0
+GoodTail x = HoldsTail x (tailIn x)
+
+-- ---- the pictures at the first n places, and the tail so far
+
+abbrev pub movedIn : List ℕ → ℕ → Handed → Released → Moved
+movedIn t n h x = record { pics = pictures t n; tail = record { handed = handedIn h; thrown = []; released = releasedIn x } }
+
+-- the same where none is handed out yet
+abbrev pub startedIn : List ℕ → ℕ → Released → Moved
+startedIn t n x = record { pics = pictures t n; tail = record { handed = []; thrown = []; released = releasedIn x } }
+
+abbrev pub clearedIn : List ℕ → ℕ → Thrown → Released → Moved
+clearedIn t n y x = record { pics = pictures t n; tail = record { handed = []; thrown = thrownIn y; released = releasedIn x } }
 
 abbrev pub waits : Picture → Bool
 waits p = p .waiting
+
+-- they are m; what may still be handed out and released has room
+pub record Gathers (t : List ℕ) (n : ℕ) (h : Handed) (x : Released) (m : Moved) : Type 0 where
+  pub pics : pictures t n ≡ m .pics
+  pub handed : HoldsHanded h (m .tail .handed)
+  pub thrown : m .tail .thrown ≡ []
+  pub released : HoldsReleased x (m .tail .released)
+  pub places : n ≤ 16
+  pub shows : length (m .tail .handed) + length (keep waits (m .pics)) ≤ 16
+  pub frees : length (m .tail .released) + length (m .pics) ≤ 17
 
 -- "pictures neither waiting nor marked", or all
 abbrev pub unused : Bool → Picture → Bool

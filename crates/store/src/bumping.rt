@@ -1,21 +1,17 @@
 // Handing out (C.5.2.2 to C.5.2.4).
 ghost use mathlib.Core.Path.{_≡_};
-ghost use mathlib.Core.Bool.{not, _||_};
-ghost use mathlib.Core.List.{[], _∷_, _++_};
 ghost use lib.Signed.{ltZ};
 ghost use Prim.Native.Nat.{_+_, _≤_, _<_};
-ghost use Rattle.paper.specs.declared.Picture.{Picture};
-ghost use Rattle.store.specs.Shelf.{pictureAt};
-ghost use Rattle.paper.specs.State.{isMarked};
-ghost use Rattle.store.specs.Tails.{shownIn};
-ghost use Rattle.store.specs.Bumps.{Scans, seenBy, dueBy, dueScan, alwaysBy, latencyBy, turnsBy, Settles, Bumps, Rounds};
+ghost use Rattle.paper.specs.Output.{andThen};
+ghost use Rattle.store.specs.Shelf.{Tidy};
+ghost use Rattle.store.specs.Tails.{GoodReleased, startedIn, Gathers};
+ghost use Rattle.store.specs.Bumps.{Scans, seenBy, dueBy, dueScan, alwaysBy, latencyBy, turnsBy, Bumps};
+use crate::Handed;
+use crate::Released;
 use crate::Store;
-use crate::Tally;
 use crate::changing::end_waiting;
 use crate::leaving::leave;
 use crate::pictures::is_marked;
-use crate::places::count_handed;
-use crate::places::count_released;
 use crate::places::picture_at;
 use paper::Limits;
 use paper::Picture;
@@ -35,6 +31,20 @@ pub struct Scan {
 pub enum Rule {
     All,
     Due(Limits, bool),
+}
+
+// One picture handed out: what the tail tells of it, whether it left, and how many places are used then.
+pub struct Bumped {
+    pub shown: Shown,
+    pub leaves: bool,
+    pub stored: usize,
+}
+
+// Pictures handed out: how many places are used then, and the two parts of the tail so far.
+pub struct Round {
+    pub stored: usize,
+    pub handed: Handed,
+    pub released: Released,
 }
 
 // Whether a POC is lower than another.
@@ -132,104 +142,74 @@ fn latency_of(rule: Rule) -> u32
     }
 }
 
-// A picture handed out, behind the first k.
-fn put_shown(handed: &mut [u32; Store::HANDED], k: usize, p: Shown)
-    requires { ⌜ k < 32 ⌝ }
-    ensures { λ _. ⌜ shownIn (now (handed .exit)) (k + 1) ≡ shownIn (now (handed .entry)) k ++ (p ∷ []) ⌝ }
-{
-    count_handed(*handed);
-    let serial = p.serial;
-    let surface = p.surface;
-    handed[3 * k] = serial.0;
-    handed[3 * k + 1] = surface.0;
-    handed[3 * k + 2] = wire::bits(p.poc);
-}
-
-// The picture that is handed out leaves ("bumping", C.5.2.4), or stays and no longer waits.
-fn settle(
-    t: &mut [u32; Store::WORDS],
-    c: Tally,
-    p: Picture,
-    leaves: bool,
-    released: &mut [u32; Store::RELEASED],
-) -> Tally
-    requires { ⌜ (c .stored ≤ 16) × (c .handed < 32) × (c .released < 49) ⌝ }
-    ensures { λ r. ⌜ Settles p leaves (now (t .entry)) (now (released .entry)) c (now (t .exit)) (now (released .exit)) r ⌝ }
-{
-    count_released(*released);
-    let serial = p.serial;
-    let surface = p.surface;
-    let n = c.stored;
-    let k = c.released;
-    if leaves {
-        released[k] = surface.0;
-        let left = leave(t, n, serial);
-        return Tally {
-            stored: left,
-            handed: c.handed + 1,
-            thrown: c.thrown,
-            released: k + 1,
-        };
-    }
-    end_waiting(t, n, serial);
-    Tally {
-        stored: n,
-        handed: c.handed + 1,
-        thrown: c.thrown,
-        released: k,
-    }
-}
-
-// The picture at a place is handed out. It leaves if it is unmarked, or always.
-fn bump(
-    t: &mut [u32; Store::WORDS],
-    c: Tally,
-    at: usize,
-    always: bool,
-    handed: &mut [u32; Store::HANDED],
-    released: &mut [u32; Store::RELEASED],
-) -> Tally
-    requires { ⌜ (at < c .stored) × (c .stored ≤ 16) × (c .handed < 32) × (c .released < 49) ⌝ }
-    ensures { λ r. ⌜ Bumps (pictureAt (now (t .entry)) at) (always || not (isMarked (pictureAt (now (t .entry)) at .mark))) (now (t .entry)) (now (handed .entry)) (now (released .entry)) c (now (t .exit)) (now (handed .exit)) (now (released .exit)) r ⌝ }
+// The picture at a place of the first n is handed out ("bumping", C.5.2.4): it leaves if it is unmarked, or always; else it stays and no longer waits.
+fn bump(t: &mut [u32; Store::WORDS], n: usize, at: usize, always: bool) -> Bumped
+    requires { ⌜ (at < n) × (n ≤ 16) ⌝ }
+    ensures { λ r. ⌜ Bumps always at (now (t .entry)) n (now (t .exit)) r ⌝ }
 {
     let p = picture_at(t, at);
     let serial = p.serial;
     let surface = p.surface;
     let m = p.mark;
-    let x = Shown {
+    let shown = Shown {
         serial,
         surface,
         poc: p.poc,
     };
-    put_shown(handed, c.handed, x);
-    settle(t, c, p, always | !is_marked(m), released)
+    if always | !is_marked(m) {
+        let stored = leave(t, n, serial);
+        return Bumped {
+            shown,
+            leaves: true,
+            stored,
+        };
+    }
+    end_waiting(t, n, serial);
+    Bumped {
+        shown,
+        leaves: false,
+        stored: n,
+    }
 }
 
 // Pictures are handed out by a rule while one waits: as many turns as are stored, which is enough, since a turn hands one out or is the
 // last (C.5.2.2, C.5.2.3).
 pub(crate) fn bump_as_needed(
     t: &mut [u32; Store::WORDS],
-    c: Tally,
+    n: usize,
     rule: Rule,
-    handed: &mut [u32; Store::HANDED],
-    released: &mut [u32; Store::RELEASED],
-) -> Tally
-    requires { ⌜ (c .stored ≤ 16) × (c .handed ≤ 16) × (c .released ≤ 33) ⌝ }
-    ensures { λ r. ⌜ Rounds (turnsBy rule) (now (t .entry)) (now (handed .entry)) (now (released .entry)) c (now (t .exit)) (now (handed .exit)) (now (released .exit)) r ⌝ }
+    x: Released,
+) -> Round
+    requires { ⌜ GoodReleased x × (n ≤ 16) × (x .len + n ≤ 17) ⌝ }
+    ensures moved { λ r. ⌜ Gathers (now (t .exit)) (r .stored) (r .handed) (r .released) (andThen (startedIn (now (t .entry)) n x) (turnsBy rule)) ⌝ }
+    ensures tidy { λ r. ⌜ (Tidy (now (t .entry)) n → Tidy (now (t .exit)) (r .stored)) ⌝ }
 {
-    let latency = latency_of(rule);
-    let always = leaves_always(rule);
-    let turns = c.stored;
-    let mut r = c;
+    let mut stored = n;
+    let mut handed = Handed::none();
+    let mut released = x;
     let mut i: usize = 0;
-    while i < turns {
-        let x = find_lowest_poc_for_bumping(t, r.stored, latency);
-        let due = needs_bumping(rule, x, r.stored);
-        if (x.waiting == 0) | !due {
-            return r;
+    while i < n {
+        let s = find_lowest_poc_for_bumping(t, stored, latency_of(rule));
+        if (s.waiting == 0) | !needs_bumping(rule, s, stored) {
+            break;
         }
-        r = bump(t, r, x.at, always, handed, released);
+        let b = bump(t, stored, s.at, leaves_always(rule));
+        let shown = b.shown;
+        let k = handed.len;
+        handed.items[k] = shown;
+        handed.len = k + 1;
+        if b.leaves {
+            let surface = shown.surface;
+            let j = released.len;
+            released.items[j] = surface;
+            released.len = j + 1;
+        }
+        stored = b.stored;
         i += 1;
     }
-    r
+    Round {
+        stored,
+        handed,
+        released,
+    }
 }

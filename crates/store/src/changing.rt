@@ -1,13 +1,11 @@
 // Changes of the stored pictures where they stand.
 ghost use mathlib.Core.Path.{_≡_};
-ghost use mathlib.Core.Bool.{cond};
 ghost use mathlib.Core.List.{map, _++_};
 ghost use Prim.Native.Nat.{_≤_, _<_};
 ghost use Rattle.paper.specs.Sets.{isIn};
 ghost use Rattle.paper.specs.Output.{done};
 ghost use Rattle.paper.specs.Calls.{raised};
-ghost use Rattle.paper.specs.declared.Picture.{Picture};
-ghost use Rattle.store.specs.Shelf.{pictureAt, pictures, Puts, Changes};
+ghost use Rattle.store.specs.Shelf.{pictureAt, pictures, Puts, Changes, Tidy};
 ghost use Rattle.store.specs.Tails.{serialsIn};
 ghost use Rattle.store.specs.Runs.{marking, marksIf};
 use crate::Store;
@@ -98,7 +96,8 @@ fn quiet_if(t: &mut [u32; Store::WORDS], i: usize, serial: Serial)
 // The pictures of a serial no longer wait, of the first n.
 pub(crate) fn end_waiting(t: &mut [u32; Store::WORDS], n: usize, serial: Serial)
     requires { ⌜ n ≤ 16 ⌝ }
-    ensures { λ _. ⌜ pictures (now (t .exit)) n ≡ map (done (serial .0)) (pictures (now (t .entry)) n) ⌝ }
+    ensures pics { λ _. ⌜ pictures (now (t .exit)) n ≡ map (done (serial .0)) (pictures (now (t .entry)) n) ⌝ }
+    ensures tidy { λ _. ⌜ (Tidy (now (t .entry)) n → Tidy (now (t .exit)) n) ⌝ }
 {
     let mut i: usize = 0;
     while i < n {
@@ -120,7 +119,8 @@ fn raise_count(t: &mut [u32; Store::WORDS], i: usize)
 // Every count risen by 1 (finish), of the first n.
 pub(crate) fn raise_counts(t: &mut [u32; Store::WORDS], n: usize)
     requires { ⌜ n ≤ 16 ⌝ }
-    ensures { λ _. ⌜ pictures (now (t .exit)) n ≡ map raised (pictures (now (t .entry)) n) ⌝ }
+    ensures pics { λ _. ⌜ pictures (now (t .exit)) n ≡ map raised (pictures (now (t .entry)) n) ⌝ }
+    ensures tidy { λ _. ⌜ (Tidy (now (t .entry)) n → Tidy (now (t .exit)) n) ⌝ }
 {
     let mut i: usize = 0;
     while i < n {

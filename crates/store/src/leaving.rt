@@ -1,18 +1,18 @@
 // Pictures leave the store: the others move up, in store order (C.5.2.2, C.5.2.4).
 ghost use mathlib.Core.Path.{_≡_};
-ghost use mathlib.Core.Bool.{cond, not};
 ghost use mathlib.Core.List.{map, _++_};
 ghost use Prim.Native.Nat.{_+_, _≤_, _<_};
 ghost use Rattle.paper.specs.Words.{keep};
 ghost use Rattle.paper.specs.Output.{inUse};
 ghost use Rattle.paper.specs.declared.Picture.{Picture};
 ghost use Rattle.store.specs.Walks.{other, serialOf, surfaceOf};
-ghost use Rattle.store.specs.Shelf.{pictureAt, pictures, Puts};
-ghost use Rattle.store.specs.Tails.{serialsIn, surfacesIn, waits, unused};
+ghost use Rattle.store.specs.Shelf.{pictures, Tidy};
+ghost use Rattle.store.specs.Tails.{HoldsThrown, HoldsReleased, GoodThrown, GoodReleased, thrownIn, releasedIn, waits, unused};
+use crate::Released;
 use crate::Store;
+use crate::Thrown;
 use crate::pictures::is_marked;
-use crate::places::count_released;
-use crate::places::count_thrown;
+use crate::places::blank_from;
 use crate::places::move_picture;
 use crate::places::picture_at;
 use paper::Picture;
@@ -23,6 +23,7 @@ pub(crate) fn leave(t: &mut [u32; Store::WORDS], n: usize, serial: Serial) -> us
     requires { ⌜ n ≤ 16 ⌝ }
     ensures few { λ r. ⌜ r ≤ n ⌝ }
     ensures left { λ r. ⌜ pictures (now (t .exit)) r ≡ keep (other serial) (pictures (now (t .entry)) n) ⌝ }
+    ensures tidy { λ r. ⌜ (Tidy (now (t .entry)) n → Tidy (now (t .exit)) r) ⌝ }
 {
     let mut k: usize = 0;
     let mut i: usize = 0;
@@ -35,6 +36,7 @@ pub(crate) fn leave(t: &mut [u32; Store::WORDS], n: usize, serial: Serial) -> us
         }
         i += 1;
     }
+    blank_from(t, k, n);
     k
 }
 
@@ -51,6 +53,7 @@ pub(crate) fn remove_unused(t: &mut [u32; Store::WORDS], n: usize) -> usize
     requires { ⌜ n ≤ 16 ⌝ }
     ensures few { λ r. ⌜ r ≤ n ⌝ }
     ensures left { λ r. ⌜ pictures (now (t .exit)) r ≡ keep inUse (pictures (now (t .entry)) n) ⌝ }
+    ensures tidy { λ r. ⌜ (Tidy (now (t .entry)) n → Tidy (now (t .exit)) r) ⌝ }
 {
     let mut k: usize = 0;
     let mut i: usize = 0;
@@ -62,56 +65,44 @@ pub(crate) fn remove_unused(t: &mut [u32; Store::WORDS], n: usize) -> usize
         }
         i += 1;
     }
+    blank_from(t, k, n);
     k
 }
 
-// The surfaces of the first n pictures that neither wait nor are marked, or of all of them, behind the `k` released so far. Answers how many that are then.
-pub(crate) fn release(
-    t: &[u32; Store::WORDS],
-    n: usize,
-    all: bool,
-    released: &mut [u32; Store::RELEASED],
-    k: usize,
-) -> usize
-    requires { ⌜ (n ≤ 16) × (k ≤ 33) ⌝ }
-    ensures few { λ r. ⌜ r ≤ k + n ⌝ }
-    ensures freed { λ r. ⌜ surfacesIn (now (released .exit)) r ≡ surfacesIn (now (released .entry)) k ++ map surfaceOf (keep (unused all) (pictures (now (t .entry)) n)) ⌝ }
+// The surfaces of the first n pictures that neither wait nor are marked, or of all of them, behind those released so far.
+pub(crate) fn release(t: &[u32; Store::WORDS], n: usize, all: bool, x: Released) -> Released
+    requires { ⌜ GoodReleased x × (n ≤ 16) × (x .len + n ≤ 17) ⌝ }
+    ensures { λ r. ⌜ HoldsReleased r (releasedIn x ++ map surfaceOf (keep (unused all) (pictures (now (t .entry)) n))) ⌝ }
 {
-    count_released(*released);
-    let mut r = k;
+    let mut r = x;
     let mut i: usize = 0;
     while i < n {
         let p = picture_at(t, i);
         if all | !is_used(p) {
-            let x = p.surface;
-            released[r] = x.0;
-            r += 1;
+            let surface = p.surface;
+            let k = r.len;
+            r.items[k] = surface;
+            r.len = k + 1;
         }
         i += 1;
     }
     r
 }
 
-// The serials of the first n pictures that wait, behind the `k` thrown away so far. Answers how many that are then.
-pub(crate) fn throw(
-    t: &[u32; Store::WORDS],
-    n: usize,
-    thrown: &mut [u32; Store::THROWN],
-    k: usize,
-) -> usize
-    requires { ⌜ (n ≤ 16) × (k ≤ 1) ⌝ }
-    ensures few { λ r. ⌜ r ≤ k + n ⌝ }
-    ensures gone { λ r. ⌜ serialsIn (now (thrown .exit)) r ≡ serialsIn (now (thrown .entry)) k ++ map serialOf (keep waits (pictures (now (t .entry)) n)) ⌝ }
+// The serials of the first n pictures that wait, behind those thrown away so far.
+pub(crate) fn throw(t: &[u32; Store::WORDS], n: usize, x: Thrown) -> Thrown
+    requires { ⌜ GoodThrown x × (n ≤ 16) × (x .len + n ≤ 17) ⌝ }
+    ensures { λ r. ⌜ HoldsThrown r (thrownIn x ++ map serialOf (keep waits (pictures (now (t .entry)) n))) ⌝ }
 {
-    count_thrown(*thrown);
-    let mut r = k;
+    let mut r = x;
     let mut i: usize = 0;
     while i < n {
         let p = picture_at(t, i);
         if p.waiting {
-            let x = p.serial;
-            thrown[r] = x.0;
-            r += 1;
+            let serial = p.serial;
+            let k = r.len;
+            r.items[k] = serial;
+            r.len = k + 1;
         }
         i += 1;
     }

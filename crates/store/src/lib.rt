@@ -28,14 +28,35 @@ pub use searching::holds_surface;
 pub use setting::derive_and_mark_rps;
 ghost use mathlib.Core.Path.{_≡_};
 ghost use mathlib.Core.List.{[]};
-ghost use Rattle.store.specs.Shelf.{stored};
+ghost use Rattle.store.specs.Shelf.{stored, NormalForm};
+ghost use Rattle.store.specs.Tails.{HoldsHanded, HoldsThrown, HoldsReleased};
+use paper::Serial;
+use paper::Shown;
+use paper::Surface;
 
-// How many pictures are stored, and how many the tail so far has: handed out, thrown away, released.
-pub struct Tally {
-    pub stored: usize,
-    pub handed: usize,
-    pub thrown: usize,
-    pub released: usize,
+// The pictures handed out, in order.
+pub struct Handed {
+    pub items: [Shown; Store::CAPACITY],
+    pub len: usize,
+}
+
+// The serials thrown away, in order.
+pub struct Thrown {
+    pub items: [Serial; Store::TAIL],
+    pub len: usize,
+}
+
+// The surfaces released, in order.
+pub struct Released {
+    pub items: [Surface; Store::TAIL],
+    pub len: usize,
+}
+
+// A tail: what a call handed out, threw away and released.
+pub struct Tail {
+    pub handed: Handed,
+    pub thrown: Thrown,
+    pub released: Released,
 }
 
 // The sizes of the five sets (8.3.2).
@@ -59,14 +80,8 @@ impl Store {
     // Sixteen places of six words, and how many are used.
     pub const WORDS: usize = 97;
 
-    // Words for the pictures handed out in two rounds, three for each.
-    pub const HANDED: usize = 96;
-
-    // The stored pictures and the current one may be thrown away in one call.
-    pub const THROWN: usize = 17;
-
-    // Surfaces that two rounds and a clearing release, and the current one's.
-    pub const RELEASED: usize = 49;
+    // The stored pictures and the current one may go in one call.
+    pub const TAIL: usize = 17;
 
     // The least reply buffer, in bytes.
     pub const REPLY: usize = 512;
@@ -79,9 +94,47 @@ impl Store {
 
     // A store that holds nothing.
     pub fn empty() -> Self
-        ensures { λ r. ⌜ stored (r .words) ≡ [] ⌝ }
+        ensures holds { λ r. ⌜ stored (r .words) ≡ [] ⌝ }
+        ensures normal { λ r. ⌜ NormalForm (r .words) ⌝ }
     {
         let words = [0u32; Store::WORDS];
         Store { words }
+    }
+}
+
+impl Handed {
+    // No picture handed out.
+    pub fn none() -> Self
+        ensures { λ r. ⌜ HoldsHanded r [] ⌝ }
+    {
+        let b = Shown {
+            serial: Serial(0),
+            surface: Surface(0),
+            poc: 0,
+        };
+        let items = [b; Store::CAPACITY];
+        Handed { items, len: 0 }
+    }
+}
+
+impl Thrown {
+    // No serial thrown away.
+    pub fn none() -> Self
+        ensures { λ r. ⌜ HoldsThrown r [] ⌝ }
+    {
+        let b = Serial(0);
+        let items = [b; Store::TAIL];
+        Thrown { items, len: 0 }
+    }
+}
+
+impl Released {
+    // No surface released.
+    pub fn none() -> Self
+        ensures { λ r. ⌜ HoldsReleased r [] ⌝ }
+    {
+        let b = Surface(0);
+        let items = [b; Store::TAIL];
+        Released { items, len: 0 }
     }
 }

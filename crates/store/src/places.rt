@@ -4,7 +4,8 @@ ghost use Prim.Native.Nat.{_*_, _+_, _≤_, _<_, min};
 ghost use lib.Dec.{leb};
 ghost use lib.ListN.{length};
 ghost use Rattle.paper.specs.Sets.{marked};
-ghost use Rattle.store.specs.Shelf.{flagOf, flagWord, markOf, markWord, pictureAt, stored, countIn, Puts, quieted, recounted};
+ghost use Rattle.store.specs.Walks.{blank};
+ghost use Rattle.store.specs.Shelf.{flagOf, flagWord, markOf, markWord, pictureAt, pictures, stored, countIn, Puts, Tidy, quieted, recounted};
 use crate::Store;
 use paper::Limits;
 use paper::Mark;
@@ -102,32 +103,11 @@ pub(crate) fn count_words(words: [u32; Store::WORDS]) -> usize
     Store::WORDS
 }
 
-// How many words the surfaces released have, likewise.
-pub(crate) fn count_released(words: [u32; Store::RELEASED]) -> usize
-    ensures { λ r. ⌜ (r ≡ 49) × (length words ≡ 49) ⌝ }
-{
-    Store::RELEASED
-}
-
-// How many words the serials thrown away have, likewise.
-pub(crate) fn count_thrown(words: [u32; Store::THROWN]) -> usize
-    ensures { λ r. ⌜ (r ≡ 17) × (length words ≡ 17) ⌝ }
-{
-    Store::THROWN
-}
-
 // How many words a run of members has, likewise.
 pub(crate) fn count_run(words: [u32; Store::CAPACITY]) -> usize
     ensures { λ r. ⌜ (r ≡ 16) × (length words ≡ 16) ⌝ }
 {
     Store::CAPACITY
-}
-
-// How many words the pictures handed out have, likewise.
-pub(crate) fn count_handed(words: [u32; Store::HANDED]) -> usize
-    ensures { λ r. ⌜ (r ≡ 96) × (length words ≡ 96) ⌝ }
-{
-    Store::HANDED
 }
 
 // Puts a picture at a place.
@@ -146,6 +126,35 @@ pub(crate) fn put_picture(t: &mut [u32; Store::WORDS], i: usize, p: Picture)
     t[at + 3] = mark_word(mark);
     t[at + 4] = flag_word(p.waiting);
     t[at + 5] = p.count;
+}
+
+// A place holds nothing.
+fn put_blank(t: &mut [u32; Store::WORDS], i: usize)
+    requires { ⌜ i < 16 ⌝ }
+    ensures { λ _. ⌜ Puts i blank (now (t .entry)) (now (t .exit)) ⌝ }
+{
+    let none = Picture {
+        serial: Serial(0),
+        surface: Surface(0),
+        poc: 0,
+        mark: Mark::Unmarked,
+        waiting: false,
+        count: 0,
+    };
+    put_picture(t, i, none);
+}
+
+// The places from k on hold nothing, of the first n.
+pub(crate) fn blank_from(t: &mut [u32; Store::WORDS], k: usize, n: usize)
+    requires { ⌜ (k ≤ n) × (n ≤ 16) ⌝ }
+    ensures kept { λ _. ⌜ pictures (now (t .exit)) k ≡ pictures (now (t .entry)) k ⌝ }
+    ensures tidy { λ _. ⌜ (Tidy (now (t .entry)) n → Tidy (now (t .exit)) k) ⌝ }
+{
+    let mut i = n;
+    while k < i {
+        i -= 1;
+        put_blank(t, i);
+    }
 }
 
 // The picture at a place stands at another too.

@@ -1,10 +1,10 @@
 // The sets of a picture (8.3.2): searches and marks, step 4 of begin.
 ghost use mathlib.Core.Path.{_≡_};
 ghost use mathlib.Core.List.{[], _∷_, _++_};
-ghost use Prim.Native.Nat.{_+_, _^_, _≤_, _<_, min};
+ghost use Prim.Native.Nat.{ℕ, _+_, _^_, _≤_, _<_, min};
 ghost use Rattle.paper.specs.Numbers.{bit, aSerial};
-ghost use Rattle.paper.specs.Sets.{unmarkedIf, marksOf, setsOf};
-ghost use Rattle.store.specs.Shelf.{stored};
+ghost use Rattle.paper.specs.Sets.{unmarkedIf};
+ghost use Rattle.store.specs.Shelf.{word, stored, NormalForm};
 ghost use Rattle.store.specs.Tails.{serialsIn};
 ghost use Rattle.store.specs.Runs.{wishesAt, wishesIn, answer, Joins, JoinsOne, MarksLong, KeepsMarks, Derives};
 use crate::Sizes;
@@ -41,7 +41,8 @@ fn find_wish(t: &[u32; Store::WORDS], long: bool, k: u8, poc: i32, how: u8) -> S
 // A number joins a run as a member, behind the first k.
 fn put_member(us: &mut [u32; Store::CAPACITY], k: usize, x: u32)
     requires { ⌜ k < 16 ⌝ }
-    ensures { λ _. ⌜ serialsIn (now (us .exit)) (k + 1) ≡ serialsIn (now (us .entry)) k ++ (aSerial x ∷ []) ⌝ }
+    ensures members { λ _. ⌜ serialsIn (now (us .exit)) (k + 1) ≡ serialsIn (now (us .entry)) k ++ (aSerial x ∷ []) ⌝ }
+    ensures behind { λ _. ⌜ ((i : ℕ) → k < i → word (now (us .exit)) i ≡ word (now (us .entry)) i) ⌝ }
 {
     count_run(*us);
     us[k] = x;
@@ -108,7 +109,8 @@ fn find_set(
 // The first n of a run stand behind the first `at` of another.
 fn append(us: &mut [u32; Store::CAPACITY], at: usize, xs: &[u32; Store::CAPACITY], n: usize)
     requires { ⌜ at + n ≤ 16 ⌝ }
-    ensures { λ _. ⌜ serialsIn (now (us .exit)) (at + n) ≡ serialsIn (now (us .entry)) at ++ serialsIn (now (xs .entry)) n ⌝ }
+    ensures members { λ _. ⌜ serialsIn (now (us .exit)) (at + n) ≡ serialsIn (now (us .entry)) at ++ serialsIn (now (xs .entry)) n ⌝ }
+    ensures behind { λ _. ⌜ ((i : ℕ) → at + n ≤ i → word (now (us .exit)) i ≡ word (now (us .entry)) i) ⌝ }
 {
     let mut i: usize = 0;
     while i < n {
@@ -120,7 +122,8 @@ fn append(us: &mut [u32; Store::CAPACITY], at: usize, xs: &[u32; Store::CAPACITY
 
 // An IRAP picture with NoRaslOutputFlag unmarks all.
 fn unmark_if(t: &mut [u32; Store::WORDS], over: bool)
-    ensures { λ _. ⌜ stored (now (t .exit)) ≡ unmarkedIf over (stored (now (t .entry))) ⌝ }
+    ensures pics { λ _. ⌜ stored (now (t .exit)) ≡ unmarkedIf over (stored (now (t .entry))) ⌝ }
+    ensures normal { λ _. ⌜ (NormalForm (now (t .entry)) → NormalForm (now (t .exit))) ⌝ }
 {
     if over {
         let none = [0u32; Store::CAPACITY];
@@ -140,7 +143,7 @@ fn mark_long(
     vs: &mut [u32; Store::CAPACITY],
 ) -> Runs
     requires { ⌜ from + n ≤ 16 ⌝ }
-    ensures { λ r. ⌜ MarksLong (2 ^ (min k 16)) (stored (now (t .entry))) (wishesAt (now (pocs .entry)) (now (hows .entry)) from n) n (now (t .exit)) (now (us .exit)) (now (vs .exit)) r ⌝ }
+    ensures { λ r. ⌜ MarksLong (2 ^ (min k 16)) (stored (now (t .entry))) (wishesAt (now (pocs .entry)) (now (hows .entry)) from n) n (now (t .entry)) (now (t .exit)) (now (us .exit)) (now (vs .exit)) r ⌝ }
 {
     let none = Runs { used: 0, rest: 0 };
     let r = find_set(t, true, k, pocs, hows, from, n, us, vs, none);
@@ -183,7 +186,7 @@ pub fn derive_and_mark_rps(
     vs: &mut [u32; Store::CAPACITY],
 ) -> Sizes
     requires { ⌜ neg + pos + lt ≤ 16 ⌝ }
-    ensures { λ r. ⌜ Derives (2 ^ (min k 16)) (unmarkedIf over (stored (now (t .entry)))) (wishesIn (now (pocs .entry)) (now (hows .entry)) neg pos lt) (now (t .exit)) (now (us .exit)) (now (vs .exit)) r ⌝ }
+    ensures { λ r. ⌜ Derives (2 ^ (min k 16)) (unmarkedIf over (stored (now (t .entry)))) (wishesIn (now (pocs .entry)) (now (hows .entry)) neg pos lt) (now (t .entry)) (now (us .entry)) (now (t .exit)) (now (us .exit)) (now (vs .exit)) r ⌝ }
 {
     unmark_if(t, over);
     let mut lus = [0u32; Store::CAPACITY];

@@ -7,7 +7,7 @@ use Rattle.paper.specs.Records.{limitsOf}
 use Rattle.paper.specs.Ranges.{configureRanges}
 use Rattle.paper.specs.State.{taken16}
 use Rattle.session.proofs.Ways.{ranges-no, ranges-yes}
-use Rattle.session.proofs.Saying.{room-now, configure-2, configure-9, configure-does}
+use Rattle.session.proofs.Saying.{room-now, configure-2, configure-9, configure-does, idles}
 use borrow.Author.Needs.{needs}
 use Rattle.session.proofs.closing.configure.Statement.{statement}
 use Rattle.session.proofs.closing.configure.Tie as tie
@@ -76,8 +76,8 @@ returns-3 c =
     let l = k .before .before .before .before in
     let a = l .before .before .before .before .before .args in
     λ xs.
-    configure-does (now (a .head)) xs (now (a .places)) (limitsOf (now (a .msg))) (i .put-idle .last .0) (fine l) (sym (k .before .is-stuck .ensures xs) ∙ k .if2 .left) (d .drain-as .ensures) (i .put-idle .ensures)
-    (c .put-limits .ensures) (c .before .taken-limits .ensures ∙ ap taken16 (l .before .before .limits-of .ensures))
+    configure-does (now (a .head)) xs (now (a .places)) (limitsOf (now (a .msg))) (i .put-idle .last .0) (fine l) (sym (k .before .is-stuck .ensures xs) ∙ k .if2 .left) (d .drain-as .ensures) (idles (i .put-idle .ensures))
+    (c .put-limits .ensures .0) (c .put-limits .ensures .1) (c .before .taken-limits .ensures ∙ ap taken16 (l .before .before .limits-of .ensures))
 
 pub configure-spec : {M : Type 1} → statement M
 configure-spec =

@@ -1,9 +1,7 @@
 -- The store clears, the current picture first, and its tail is the reply.
-use mathlib.Core.List.{[]}
-use lib.ListN.{replicate}
 use denote.Ref.{now}
-use Rattle.store.specs.Shelf.{stored}
-use Rattle.session.proofs.Saying.{few-leaves, few-stored, few-discarded, discard-does}
+use Rattle.store.proofs.Ends.{tail-good}
+use Rattle.session.proofs.Saying.{discard-does, idles}
 use borrow.Author.Needs.{needs}
 use Rattle.session.proofs.closing.discard.Statement.{statement}
 use Rattle.session.proofs.closing.discard.Tie as tie
@@ -21,22 +19,18 @@ put-idle-requires : tie.Need-put-idle-requires
 put-idle-requires c κs = search needs
 
 put-done-requires : tie.Need-put-done-requires
-put-done-requires c κs =
-    let d = c .before .before .before .before .before .before in
-    let n = d .before .before .before .before .before .before in
-    let t = now (n .before .before .before .args .places) in
-    (few-leaves (d .discard .ensures []) (few-discarded (stored t) (n .now-in .result) (few-stored t)), search needs)
+put-done-requires c κs = (tail-good (c .before .before .before .discard .ensures .tail), search needs)
 
 same-length : tie.Need-same-length
 same-length c = search needs
 
 returns : tie.Need-returns
 returns c =
-    let i = c .before .before .before .before .before .before .before in
+    let i = c .before .before .before .before in
     let d = i .before .before in
-    let n = d .before .before .before .before .before .before in
+    let n = d .before .before .before .before in
     let a = n .before .before .before .args in
-    λ xs. discard-does (now (a .head)) xs (now (a .places)) (n .now-in .ensures) (d .before .before .before .before .prev-in .ensures) (d .discard .ensures (replicate 96 0)) (i .put-idle .ensures) (c .before .before .put-done .ensures)
+    λ xs. discard-does (now (a .head)) xs (now (a .places)) (n .now-in .ensures) (d .before .before .prev-in .ensures) (d .discard .ensures) (idles (i .put-idle .ensures)) (c .before .before .put-done .ensures)
 
 pub discard-spec : {M : Type 1} → statement M
 discard-spec =

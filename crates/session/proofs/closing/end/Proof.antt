@@ -15,7 +15,7 @@ same-length : tie.Need-same-length
 same-length c = search needs
 
 returns : tie.Need-returns
-returns c = λ xs t. end-does (now (c .before .before .before .before .before .before .before .args .head)) xs t (c .before .before .before .before .put-ended .ensures) (c .before .before .put-quiet .ensures)
+returns c = λ xs t. end-does (now (c .before .before .before .before .before .before .before .args .head)) xs t (c .before .before .before .before .put-ended .ensures .0) (c .before .before .before .before .put-ended .ensures .1) (c .before .before .put-quiet .ensures)
 
 pub end-spec : {M : Type 1} → statement M
 end-spec = tie.close (tie.spec put-ended-requires put-quiet-requires same-length returns)

@@ -2,13 +2,14 @@
 use Prim.Native.Nat.{ℕ, _<_}
 use mathlib.Core.Path.{_≡_, sym, _∙_}
 use mathlib.Core.List.{List, []}
-use lib.ListN.{length, replicate}
+use lib.ListN.{length}
 use denote.Ref.{now}
 use Rattle.paper.specs.Calls.{full}
 use Rattle.paper.proofs.Fits.{spare}
 use Rattle.store.specs.Shelf.{stored}
 use Rattle.session.specs.View.{memory, sessionIn}
-use Rattle.session.proofs.Saying.{full-is, few-leaves, few-finished, finish-9, finish-does}
+use Rattle.store.proofs.Ends.{tail-good}
+use Rattle.session.proofs.Saying.{full-is, finish-9, finish-does, idles}
 use borrow.Author.Needs.{needs}
 use Rattle.session.proofs.closing.finish_at.Statement.{statement}
 use Rattle.session.proofs.closing.finish_at.Tie as tie
@@ -39,7 +40,7 @@ returns c =
     λ xs. finish-9 (now (s .args .head)) xs (now (s .args .places)) (s .args .c) (s .pre .0) (sym (tested (k .before) xs) ∙ k .if1 .taken) (c .before .before .refuse .ensures)
 
 finish-picture-requires : tie.Need-finish-picture-requires
-finish-picture-requires c κs = room (c .before .before .before)
+finish-picture-requires c κs = room (c .before)
 
 prev-in-requires : tie.Need-prev-in-requires
 prev-in-requires c κs = search needs
@@ -51,24 +52,20 @@ put-idle-requires : tie.Need-put-idle-requires
 put-idle-requires c κs = search needs
 
 put-done-requires : tie.Need-put-done-requires
-put-done-requires c κs =
-    let f = c .before .before .before .before .before .before .before .before .before in
-    let k = f .before .before .before .before in
-    let a = k .before .before .before .before .before .before .args in
-    (few-leaves (f .finish-picture .ensures []) (few-finished (k .before .before .before .limits-in .result) (stored (now (a .places))) (a .c) (room k)), search needs)
+put-done-requires c κs = (tail-good (c .before .before .before .before .before .before .finish-picture .ensures .tail), search needs)
 
 same-length-2 : tie.Need-same-length-2
 same-length-2 c = search needs
 
 returns-2 : tie.Need-returns-2
 returns-2 c =
-    let i = c .before .before .before .before .before .before .before in
+    let i = c .before .before .before .before in
     let f = i .before .before .before .before .before in
-    let k = f .before .before .before .before in
+    let k = f .before .before in
     let s = k .before .before .before .before .before .before in
     λ xs.
     finish-does (now (s .args .head)) xs (now (s .args .places)) (s .args .c) (s .pre .0) (sym (tested (k .before) xs) ∙ k .if1 .left) (k .before .before .before .limits-in .ensures) (i .before .before .before .prev-in .ensures) (i .before .prev-after .ensures)
-    (f .finish-picture .ensures (replicate 17 0)) (i .put-idle .ensures) (c .before .before .put-done .ensures)
+    (f .finish-picture .ensures) (idles (i .put-idle .ensures)) (c .before .before .put-done .ensures)
 
 pub finish-at-spec : {M : Type 1} → statement M
 finish-at-spec =

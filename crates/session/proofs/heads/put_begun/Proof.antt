@@ -5,7 +5,7 @@ use denote.Ref.{now}
 use mir.ValLaws.{toZ-ofZ}
 use mir.Val.{SFits, ofZ}
 use mir.Syntax.{w32}
-use Rattle.session.proofs.Fronts.{front-begun}
+use Rattle.session.proofs.Fronts.{front-begun, words-begun}
 use Rattle.session.proofs.heads.put_begun.Statement.{statement}
 use Rattle.session.proofs.heads.put_begun.Tie as tie
 
@@ -86,8 +86,11 @@ returns c =
     let m : SFits w32 (x .msb) = search (needs, s .good .1 .0) in
     let ep : c .before .before .before .before .before .before .before .before .bits .result ≡ ofZ w32 (x .poc) = c .before .before .before .before .before .before .before .before .bits .ensures ∙ ap (ofZ w32) (toZ-ofZ w32 (x .poc) p) in
     let em : c .before .before .before .before .before .bits2 .result ≡ ofZ w32 (x .msb) = c .before .before .before .before .before .bits2 .ensures ∙ ap (ofZ w32) (toZ-ofZ w32 (x .msb) m) in
-    rw (ep, em, c .before .before .before .before .flag-word .ensures, c .before .before .before .flag-word2 .ensures)
-    (front-begun (now (s .args .h)) (c .before .before .before .before .before .before .before .before .before .before .before .before .count-head .ensures .1) x (s .args .x) (s .args .next) p (search needs) m (search needs) (search needs) (search needs))
+    let h = now (s .args .h) in
+    rw (ep, em, c .before .before .before .before .flag-word .ensures, c .before .before .before .flag-word2 .ensures) (
+      front-begun h (c .before .before .before .before .before .before .before .before .before .before .before .before .count-head .ensures .1) x (s .args .x) (s .args .next) p (search needs) m (search needs) (search needs) (search needs),
+      λ f e. words-begun h f e x (s .args .x) (s .args .next),
+    )
 
 pub put-begun-spec : {M : Type 1} → statement M
 put-begun-spec =

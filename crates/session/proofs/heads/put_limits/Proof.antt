@@ -1,7 +1,7 @@
 -- Each limit is written where it is read.
 use borrow.Author.Needs.{needs}
 use denote.Ref.{now}
-use Rattle.session.proofs.Fronts.{front-limits}
+use Rattle.session.proofs.Fronts.{front-limits, words-limits}
 use Rattle.session.proofs.heads.put_limits.Statement.{statement}
 use Rattle.session.proofs.heads.put_limits.Tie as tie
 
@@ -44,7 +44,10 @@ element-write-h-6 c = search needs
 returns : tie.Need-returns
 returns c =
     let s = c .before .before .before .before .before .before .before in
-    front-limits (now (s .args .h)) (c .before .before .before .before .before .count-head .ensures .1) (s .args .l) (search needs) (search needs) (search needs) (search needs) (search needs)
+    let h = now (s .args .h) in (
+      front-limits h (c .before .before .before .before .before .count-head .ensures .1) (s .args .l) (search needs) (search needs) (search needs) (search needs) (search needs),
+      λ f e. words-limits h f e (s .args .l),
+    )
 
 pub put-limits-spec : {M : Type 1} → statement M
 put-limits-spec =

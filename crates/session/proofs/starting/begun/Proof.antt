@@ -50,7 +50,7 @@ returns c =
     let s = c .before .before .before .before .before .before .before .before .before .before .before .before .before .before .before .before .before .before .before .before .before .before .before .before .before .before .before .before in
     let a = s .args in
     begun-does (memory (now (a .head)) (now (a .run)) (now (a .places))) (now (a .msg)) (a .h) (a .t) (now (a .pocs)) (now (a .hows)) (s .pre .0) (c .before .before .before .before .before .before .before .before .before .before .before .before .before .before .before .before .before .before .before .before .before .before .before .before .limits-in .ensures)
-    (c .before .before .before .before .before .before .before .before .before .before .before .before .before .before .before .before .derive-and-mark-rps .ensures) (c .before .before .before .before .before .before .before .before .tell-begun .ensures) (c .before .before .before .before .before .before .before .before .before .before .before .before .before .before .count-run .ensures .1) (c .put-begun .ensures) (c .before .before .before .current-of .ensures) (c .before .before .refs-of .ensures) (c .before .next-after .ensures)
+    (c .before .before .before .before .before .before .before .before .before .before .before .before .before .before .before .before .derive-and-mark-rps .ensures) (c .before .before .before .before .before .before .before .before .tell-begun .ensures) (c .before .before .before .before .before .before .before .before .before .before .before .before .before .before .count-run .ensures .1) (c .put-begun .ensures .0) (c .put-begun .ensures .1) (c .before .before .before .current-of .ensures) (c .before .before .refs-of .ensures) (c .before .next-after .ensures)
 
 pub begun-spec : {M : Type 1} → statement M
 begun-spec =

@@ -1,7 +1,6 @@
 -- The tail of step 5 is no longer than the store was, and the reply tells it.
 use Rattle.session.proofs.Begins.{tells}
-use Rattle.session.proofs.Saying.{few-leaves, few-stored, few-moved}
-use Rattle.paper.proofs.Sizes.{shrinks-before}
+use Rattle.store.proofs.Ends.{tail-good}
 use denote.Ref.{now}
 use borrow.Author.Needs.{needs}
 use Rattle.session.proofs.starting.tell_begun.Statement.{statement}
@@ -26,16 +25,16 @@ told-of-requires : tie.Need-told-of-requires
 told-of-requires c κs = search needs
 
 put-begun-requires : tie.Need-put-begun-requires
-put-begun-requires c κs = let s = c .before .before .before .before .before .before .before .before .before .before .before .before .before .before .before .before .before in (s .pre .0, (few-leaves (c .before .before .before .before .before .before .update-dpb-before-decoding .ensures) (few-moved _ _ (shrinks-before _ _ _ _) (few-stored (now (s .args .places)))), s .pre .1))
+put-begun-requires c κs = let s = c .before .before .before .before .before .before .before .before .before .before .before in (s .pre .0, (tail-good (c .before .before .before .update-dpb-before-decoding .ensures .tail), s .pre .1))
 
 same-length : tie.Need-same-length
 same-length c = search needs
 
 returns : tie.Need-returns
 returns c =
-    let a = c .before .before .before .before .before .before .before .before .before .before .before .before .before .before .before .before .before .before .before .before .args in
-    tells (now (a .head)) (now (a .us)) (now (a .vs)) (now (a .places)) (a .t) (a .x) (c .before .before .before .before .before .before .before .before .before .before .before .before .before .before .before .before .before .before .limits-in .ensures) (c .before .before .before .before .before .before .before .before .before .before .before .before .before .before .before .flag-of .ensures) (c .before .before .before .before .before .before .before .told-of .ensures)
-    (c .before .before .before .before .before .before .before .before .before .update-dpb-before-decoding .ensures) (c .before .before .put-begun .ensures)
+    let a = c .before .before .before .before .before .before .before .before .before .before .before .before .before .before .args in
+    tells (now (a .head)) (now (a .us)) (now (a .vs)) (now (a .places)) (a .t) (a .x) (c .before .before .before .before .before .before .before .before .before .before .before .before .limits-in .ensures) (c .before .before .before .before .before .before .before .before .before .flag-of .ensures) (c .before .before .before .before .told-of .ensures)
+    (c .before .before .before .before .before .before .update-dpb-before-decoding .ensures) (c .before .before .put-begun .ensures)
 
 pub tell-begun-spec : {M : Type 1} → statement M
 tell-begun-spec =

@@ -15,7 +15,7 @@ sub-put-head : tie.Need-sub-put-head
 sub-put-head c = search needs
 
 cast-put-head : tie.Need-cast-put-head
-cast-put-head c = let s = c .before .before .before .before .before .before in omega (arith, tail-room (now (s .args .handed)) (now (s .args .thrown)) (now (s .args .released)) (s .args .c) (s .pre .0))
+cast-put-head c = omega (arith, tail-room (c .before .before .before .before .before .before .args .x) (c .before .before .before .before .before .before .pre .0))
 
 put-head-requires : tie.Need-put-head-requires
 put-head-requires c κs = search needs
@@ -25,10 +25,8 @@ same-length c = search needs
 
 returns : tie.Need-returns
 returns c =
-    let s = c .before .before .before .before .before .before .before .before .before in
-    let a = s .args in
-    framed-last (now (a .d)) (tailBytes (tailIn (now (a .handed)) (now (a .thrown)) (now (a .released)) (a .c))) (a .kind) (c .before .before .before .before .before .before .put-tail .ensures)
-    (omega (arith, s .pre .1 .room, tail-room (now (a .handed)) (now (a .thrown)) (now (a .released)) (a .c) (s .pre .0))) (c .before .before .put-head .ensures)
+    let a = c .before .before .before .before .before .before .before .before .before .args in
+    framed-last (now (a .d)) (tailBytes (tailIn (a .x))) (a .kind) (c .before .before .before .before .before .before .put-tail .ensures) (omega (arith, tail-room (a .x) (c .before .before .before .before .before .before .before .before .before .pre .0))) (c .before .before .put-head .ensures)
 
 pub put-done-spec : {M : Type 1} → statement M
 put-done-spec =

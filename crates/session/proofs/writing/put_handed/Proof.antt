@@ -1,27 +1,29 @@
 -- Each turn writes one picture of twelve bytes behind those before it.
 use borrow.Author.Needs.{needs}
-use Prim.Native.Nat.{_+_, _*_, _≤_, _-_}
+use Prim.Native.Nat.{ℕ, _+_, _-_, _*_, _≤_}
 use mathlib.Core.Path.{_≡_}
 use native.Mathlib.Omega.{arith}
-use lib.ListN.{length}
-use denote.Ref.{now}
+use lib.ListN.{length, getD}
 use Rattle.paper.specs.Replies.{shownBytes}
-use Rattle.store.specs.Tails.{shownAt}
-use Rattle.session.proofs.Bytes.{Laid, laid-none, laid-more, length-shown}
+use Rattle.store.specs.Tails.{noShown}
+use Rattle.session.proofs.Bytes.{Laid, laid-none, laid-more, take-table, length-shown}
 use Rattle.session.proofs.writing.put_handed.Statement.{statement}
 use Rattle.session.proofs.writing.put_handed.Tie as tie
 
 abbrev Inv-loop : tie.InvT-loop
-Inv-loop d₀ at handed n i₀ d i = (i ≤ n) × ((n ≤ 16) × (at + 12 * n ≤ length d₀)) × Laid shownBytes (shownAt handed) d₀ at i d
+Inv-loop d₀ at n xs i₀ d i = (i ≤ n) × ((n ≤ 16) × (length xs ≡ 16) × (at + 12 * n ≤ length d₀)) × Laid shownBytes (λ (j : ℕ). getD xs j noShown) d₀ at i d
 
 abbrev μ-loop : tie.MeasureT-loop
-μ-loop d₀ at handed n i₀ d i = n - i
+μ-loop d₀ at n xs i₀ d i = n - i
 
 loop-holds : tie.Need-loop-holds Inv-loop μ-loop
-loop-holds c = (search needs, search needs, laid-none shownBytes (shownAt (now (c .before .args .handed))) (now (c .before .args .d)) (c .before .args .at))
+loop-holds c = let a = c .before .args in (search needs, search needs, laid-none shownBytes (λ (j : ℕ). getD (a .t3) j noShown) (a .d .now) (a .at))
 
-shown-at-requires : tie.Need-shown-at-requires Inv-loop μ-loop
-shown-at-requires c κs = search needs
+mul-p : tie.Need-mul-p Inv-loop μ-loop
+mul-p c = search needs
+
+array-copy-out-p : tie.Need-array-copy-out-p Inv-loop μ-loop
+array-copy-out-p c = search needs
 
 mul-put-shown : tie.Need-mul-put-shown Inv-loop μ-loop
 mul-put-shown c = search needs
@@ -42,7 +44,7 @@ loop-again : tie.Need-loop-again Inv-loop μ-loop
 loop-again c =
     let l = c .before .before .before .before .before .before .loop in
     let a = c .before .before .before .before .before .before .before .before .args in
-    (search needs, search needs, laid-more shownBytes (shownAt (now (a .handed))) 12 length-shown (now (a .d)) (a .at) (l .i) (l .inv .2) (c .before .before .put-shown .kept .0) (rw (c .before .before .before .before .shown-at .ensures) at (c .before .before .put-shown .ensures .1)))
+    (search needs, search needs, laid-more shownBytes (λ (j : ℕ). getD (a .t3) j noShown) 12 length-shown (a .d .now) (a .at) (l .i) (l .inv .2) (c .before .before .put-shown .kept .0) (c .before .before .put-shown .ensures .1))
 
 mul-result : tie.Need-mul-result Inv-loop μ-loop
 mul-result c = search needs
@@ -54,7 +56,10 @@ same-length : tie.Need-same-length Inv-loop μ-loop
 same-length c = search needs
 
 returns : tie.Need-returns Inv-loop μ-loop
-returns c = let e : c .before .loop .i ≡ c .before .before .before .args .n = omega arith in (search needs, rw (← e) (c .before .loop .inv .2 .bytes))
+returns c =
+    let a = c .before .before .before .args in
+    let e : c .before .loop .i ≡ a .n = omega arith in
+    (search needs, rw (take-table noShown (a .t3) (a .n) (omega (arith, c .before .loop .inv .1)), ← e) (c .before .loop .inv .2 .bytes))
 
 pub put-handed-spec : {M : Type 1} → statement M
 put-handed-spec =
@@ -63,7 +68,8 @@ put-handed-spec =
     Inv-loop
     μ-loop
     loop-holds
-    shown-at-requires
+    mul-p
+    array-copy-out-p
     mul-put-shown
     add-put-shown
     put-shown-requires

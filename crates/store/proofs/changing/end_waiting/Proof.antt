@@ -31,7 +31,8 @@ loop-again c = (omega arith, changed-more (c .before .before .before .loop .inv 
 returns : tie.Need-returns Inv-loop μ-loop
 returns c =
     let e : c .before .loop .i ≡ c .before .before .args .n = omega arith in
-    changed-all (rw e at (c .before .loop .inv .1))
+    let h = rw e at (c .before .loop .inv .1) in
+    (changed-all h, h .tidy (c .before .before .args .n) (omega arith))
 
 pub end-waiting-spec : {M : Type 1} → statement M
 end-waiting-spec =

@@ -11,15 +11,20 @@ throw-requires c κs = search needs
 release-requires : tie.Need-release-requires
 release-requires c κs = search needs
 
-set-used-requires : tie.Need-set-used-requires
-set-used-requires c κs = search needs
+forget-requires : tie.Need-forget-requires
+forget-requires c κs = search needs
+
+none-requires : tie.Need-none-requires
+none-requires c κs = search needs
 
 returns : tie.Need-returns
 returns c =
-    let a = c .before .before .before .before .before .before .before .before .args in
+    let a = c .before .before .before .before .before .before .before .args in
     let g = c .before .before .before .before .before .throw in
-    let f = c .before .before .release in
-    clears (now (a .t)) (now (a .thrown)) (now (a .released)) (g .last .1 .1 .0) (f .last .1 .1 .1 .0) (c .set-used .last .0) (a .c) (g .result) (f .result) (g .ensures .1) (f .ensures .1) (c .set-used .ensures)
+    let f = c .before .before .before .release in
+    let z = c .before .forget in
+    (clears (now (a .t)) (a .n) (a .y) (a .x) (c .none .result) (g .result) (f .result) (c .none .ensures) (g .ensures) (f .ensures), (z .ensures .0, z .ensures .1))
 
 pub clear-spec : {M : Type 1} → statement M
-clear-spec = tie.close (tie.spec throw-requires release-requires set-used-requires returns)
+clear-spec =
+    tie.close (tie.spec throw-requires release-requires forget-requires none-requires returns)

@@ -1,11 +1,14 @@
 -- As many places are used as the round has left.
 use denote.Ref.{now}
-use mathlib.Core.Path.{ap, _∙_}
-use native.Mathlib.Omega.{arith}
 use Prim.Native.Nat.{ℕ}
+use native.Mathlib.Omega.{arith}
+use mathlib.Core.Path.{subst}
 use Rattle.paper.specs.Calls.{finished}
-use Rattle.store.specs.Shelf.{pictures, stored}
-use Rattle.store.proofs.Ends.{used-length, leaves}
+use Rattle.store.specs.Shelf.{pictures}
+use Rattle.store.specs.Tails.{Gathers}
+use Rattle.store.proofs.Ends.{normal-tidy, leaves}
+use Rattle.store.proofs.Rounds.{gathers-good}
+use Rattle.store.proofs.Shelf.{used-length}
 use borrow.Author.Needs.{needs}
 use Rattle.store.proofs.ending.finish_picture.Statement.{statement}
 use Rattle.store.proofs.ending.finish_picture.Tie as tie
@@ -14,20 +17,22 @@ used-places-requires : tie.Need-used-places-requires
 used-places-requires c κs = search needs
 
 finish-at-requires : tie.Need-finish-at-requires
-finish-at-requires c κs = let s = c .before .before .before .before .before in omega (arith, c .before .before .before .used-places .ensures .0, used-length (now (s .args .t)), s .pre)
+finish-at-requires c κs =
+    let s = c .before .before .before in
+    omega (arith, c .before .used-places .ensures .0, used-length (now (s .args .t)), s .pre)
 
-set-used-requires : tie.Need-set-used-requires
-set-used-requires c κs = search needs
+close-requires : tie.Need-close-requires
+close-requires c κs = gathers-good (c .before .finish-at .ensures .0)
 
 returns : tie.Need-returns
 returns c =
-    let a = c .before .before .before .before .before .before .before .before .args in
+    let a = c .before .before .before .before .before .before .args in
+    let n = c .before .before .before .before .used-places in
     let f = c .before .before .finish-at in
-    let n = c .before .before .before .before .before .before .used-places in
-    λ ts.
-    leaves (finished (a .l) (stored (now (a .t))) (a .c)) (f .last .0) (c .set-used .last .0) (f .last .1 .1 .1 .1 .0) ts (f .last .1 .1 .1 .1 .1 .0) (f .result) (c .set-used .ensures)
-    (f .ensures .moved ts ∙ ap (λ (k : ℕ). finished (a .l) (pictures (now (a .t)) k) (a .c)) (n .ensures .0))
+    let e = c .close in
+    let g = subst (λ (k : ℕ). Gathers (f .last .0) (f .result .stored) (f .result .handed) (f .result .released) (finished (a .l) (pictures (now (a .t)) k) (a .c))) (n .ensures .0) (f .ensures .0) in
+    leaves (now (a .t)) (e .last .0) (e .result) g (e .ensures .1 .0) (e .ensures .0) (λ h. e .ensures .1 .1 (f .ensures .1 (normal-tidy (now (a .t)) (n .result) (n .ensures .0) h)))
 
 pub finish-picture-spec : {M : Type 1} → statement M
 finish-picture-spec =
-    tie.close (tie.spec used-places-requires finish-at-requires set-used-requires returns)
+    tie.close (tie.spec used-places-requires finish-at-requires close-requires returns)

@@ -1,8 +1,8 @@
--- Each turn passes one place over or moves its picture up, and the places from it on are as they were.
+-- Each turn passes one place over or moves its picture up, and the places from it on are as they were; what is left behind is blanked.
 use Prim.Native.Nat.{_≤_, _-_}
 use mathlib.Core.Logic.{⊎-elim}
 use mathlib.Core.Bool.{not}
-use mathlib.Core.Path.{_≡_, ap}
+use mathlib.Core.Path.{_≡_, ap, _∙_}
 use native.Mathlib.Omega.{arith}
 use borrow.Author.Tests.{eq-eqb, ne-eqb}
 use Rattle.store.specs.Walks.{other}
@@ -47,11 +47,17 @@ loop-again c =
           (c .if1 .came),
     )
 
+blank-from-requires : tie.Need-blank-from-requires Inv-loop μ-loop
+blank-from-requires c κs = (omega arith, omega arith)
+
 returns : tie.Need-returns Inv-loop μ-loop
 returns c =
-    let e : c .before .loop .i ≡ c .before .before .args .n = omega arith in
-    let h = rw e at (c .before .loop .inv .1) in
-    (h .few, h .pics)
+    let k = c .before .before .before in
+    let n = k .before .args .n in
+    let e : k .loop .i ≡ n = omega arith in
+    let h = rw e at (k .loop .inv .1) in
+    let b = c .blank-from .ensures in
+    (h .few, (b .0 ∙ h .pics, λ d. b .1 (h .tidy n (omega arith) d)))
 
 pub leave-spec : {M : Type 1} → statement M
 leave-spec =
@@ -66,4 +72,5 @@ leave-spec =
     add-i
     loop-less
     loop-again
+    blank-from-requires
     returns)

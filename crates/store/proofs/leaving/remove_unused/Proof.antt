@@ -1,4 +1,4 @@
--- Each turn passes one place over or moves its picture up, and the places from it on are as they were.
+-- Each turn passes one place over or moves its picture up, and the places from it on are as they were; what is left behind is blanked.
 use Prim.Native.Nat.{_≤_, _-_}
 use mathlib.Core.Logic.{⊎-elim}
 use mathlib.Core.Path.{_≡_, sym, ap, _∙_}
@@ -45,11 +45,17 @@ loop-again c =
       ⊎-elim (λ w. rw (w .3, w .4) (kept-take (k .loop .inv .1) (e ∙ w .0 .taken) (w .2 .ensures))) (λ w. rw (w .1, w .2) (kept-pass (k .loop .inv .1) (e ∙ w .0 .left))) (c .if1 .came),
     )
 
+blank-from-requires : tie.Need-blank-from-requires Inv-loop μ-loop
+blank-from-requires c κs = (omega arith, omega arith)
+
 returns : tie.Need-returns Inv-loop μ-loop
 returns c =
-    let e : c .before .loop .i ≡ c .before .before .args .n = omega arith in
-    let h = rw e at (c .before .loop .inv .1) in
-    (h .few, h .pics)
+    let k = c .before .before .before in
+    let n = k .before .args .n in
+    let e : k .loop .i ≡ n = omega arith in
+    let h = rw e at (k .loop .inv .1) in
+    let b = c .blank-from .ensures in
+    (h .few, (b .0 ∙ h .pics, λ d. b .1 (h .tidy n (omega arith) d)))
 
 pub remove-unused-spec : {M : Type 1} → statement M
 remove-unused-spec =
@@ -65,4 +71,5 @@ remove-unused-spec =
     add-i
     loop-less
     loop-again
+    blank-from-requires
     returns)

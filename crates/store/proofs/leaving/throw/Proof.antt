@@ -3,34 +3,30 @@ use Prim.Native.Nat.{_≤_, _-_}
 use mathlib.Core.Logic.{⊎-elim}
 use mathlib.Core.Path.{_≡_, sym, ap, _∙_}
 use native.Mathlib.Omega.{arith}
-use borrow.Author.Needs.{needs}
-use Rattle.paper.specs.Numbers.{aSerial}
 use Rattle.store.specs.Walks.{serialOf}
-use Rattle.store.specs.Tails.{waits}
+use Rattle.derivation.specs.Lists.{blankSerial}
+use Rattle.store.specs.Tails.{waits, thrownIn}
 use Rattle.store.proofs.Kept.{Pushed, pushed-none, pushed-take, pushed-pass}
 use Rattle.store.proofs.leaving.throw.Statement.{statement}
 use Rattle.store.proofs.leaving.throw.Tie as tie
 
 abbrev Inv-loop : tie.InvT-loop
-Inv-loop t n thrown₀ k r₀ i₀ thrown r i = (i ≤ n) × Pushed waits serialOf aSerial t thrown₀ thrown k r i
+Inv-loop t n r₀ i₀ r i = (i ≤ n) × Pushed 17 blankSerial waits serialOf t (thrownIn r₀) (r₀ .len) (r .items) (r .len) i
 
 abbrev μ-loop : tie.MeasureT-loop
-μ-loop t n thrown₀ k r₀ i₀ thrown r i = n - i
-
-count-thrown-requires : tie.Need-count-thrown-requires Inv-loop μ-loop
-count-thrown-requires c κs = search needs
+μ-loop t n r₀ i₀ r i = n - i
 
 loop-holds : tie.Need-loop-holds Inv-loop μ-loop
-loop-holds c = (omega arith, pushed-none _ _ _ _ _ _)
+loop-holds c = (omega arith, pushed-none _ _ _ (c .pre .0))
 
 picture-at-requires : tie.Need-picture-at-requires Inv-loop μ-loop
 picture-at-requires c κs = omega arith
 
-mul-thrown : tie.Need-mul-thrown Inv-loop μ-loop
-mul-thrown c = omega arith
+mul-serial : tie.Need-mul-serial Inv-loop μ-loop
+mul-serial c = omega arith
 
-element-write-thrown : tie.Need-element-write-thrown Inv-loop μ-loop
-element-write-thrown c = omega arith
+element-set-from-serial : tie.Need-element-set-from-serial Inv-loop μ-loop
+element-set-from-serial c = omega arith
 
 add-r : tie.Need-add-r Inv-loop μ-loop
 add-r c = omega arith
@@ -44,21 +40,21 @@ loop-less c = omega arith
 loop-again : tie.Need-loop-again Inv-loop μ-loop
 loop-again c =
     let k = c .before .before .before in
-    let s = k .before .before .before in
+    let s = k .before in
     let q = c .before .picture-at in
     let e = ap waits (sym (q .ensures)) in
     let f = k .loop .inv .1 .few in (
       omega arith,
-      ⊎-elim (λ w. rw (w .2, w .3) (pushed-take (k .loop .inv .1) (q .result .serial .0) (ap serialOf (q .ensures)) (omega (arith, k .before .count-thrown .ensures .1, s .pre)) (e ∙ w .0 .taken)))
-          (λ w. rw (w .1, w .2) (pushed-pass (k .loop .inv .1) (e ∙ w .0 .left)))
+      ⊎-elim (λ w. rw (w .2) (pushed-take (k .loop .inv .1) (q .result .serial) (ap serialOf (q .ensures)) (omega (arith, s .pre .2)) (e ∙ w .0 .taken)))
+          (λ w. rw (w .1) (pushed-pass (k .loop .inv .1) (e ∙ w .0 .left)))
           (c .if1 .came),
     )
 
 returns : tie.Need-returns Inv-loop μ-loop
 returns c =
-    let e : c .before .loop .i ≡ c .before .before .before .before .args .n = omega arith in
+    let e : c .before .loop .i ≡ c .before .before .args .n = omega arith in
     let h = rw e at (c .before .loop .inv .1) in
-    (h .few, h .words)
+    h .holds
 
 pub throw-spec : {M : Type 1} → statement M
 throw-spec =
@@ -66,11 +62,10 @@ throw-spec =
     (tie.spec
     Inv-loop
     μ-loop
-    count-thrown-requires
     loop-holds
     picture-at-requires
-    mul-thrown
-    element-write-thrown
+    mul-serial
+    element-set-from-serial
     add-r
     add-i
     loop-less

@@ -8,15 +8,12 @@ use borrow.Author.Needs.{needs}
 use Rattle.store.proofs.places.is_full.Statement.{statement}
 use Rattle.store.proofs.places.is_full.Tie as tie
 
--- src/places.rt:31:16
 cast-most : tie.Need-cast-most
 cast-most c = search needs
 
--- src/places.rt:32:9
 used-places-requires : tie.Need-used-places-requires
 used-places-requires c κs = search needs
 
--- src/places.rt:28:1
 returns : tie.Need-returns
 returns c =
     let s = c .before .before in

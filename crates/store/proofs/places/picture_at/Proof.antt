@@ -8,91 +8,69 @@ use borrow.Author.Needs.{needs}
 use Rattle.store.proofs.places.picture_at.Statement.{statement}
 use Rattle.store.proofs.places.picture_at.Tie as tie
 
--- src/places.rt:77:14
 mul-at : tie.Need-mul-at
 mul-at c = search needs
 
--- src/places.rt:78:30
 add-signed : tie.Need-add-signed
 add-signed c = search needs
 
--- src/places.rt:78:28
 mul-signed : tie.Need-mul-signed
 mul-signed c = search needs
 
--- src/places.rt:78:28
 element-copy-out-signed : tie.Need-element-copy-out-signed
 element-copy-out-signed c = search needs
 
--- src/places.rt:78:9
 signed-requires : tie.Need-signed-requires
 signed-requires c κs = search needs
 
--- src/places.rt:79:26
 add-mark-of : tie.Need-add-mark-of
 add-mark-of c = search needs
 
--- src/places.rt:79:24
 mul-mark-of : tie.Need-mul-mark-of
 mul-mark-of c = search needs
 
--- src/places.rt:79:24
 element-copy-out-mark-of : tie.Need-element-copy-out-mark-of
 element-copy-out-mark-of c = search needs
 
--- src/places.rt:79:9
 mark-of-requires : tie.Need-mark-of-requires
 mark-of-requires c κs = search needs
 
--- src/places.rt:80:29
 add-flag-of : tie.Need-add-flag-of
 add-flag-of c = search needs
 
--- src/places.rt:80:27
 mul-flag-of : tie.Need-mul-flag-of
 mul-flag-of c = search needs
 
--- src/places.rt:80:27
 element-copy-out-flag-of : tie.Need-element-copy-out-flag-of
 element-copy-out-flag-of c = search needs
 
--- src/places.rt:80:9
 flag-of-requires : tie.Need-flag-of-requires
 flag-of-requires c κs = search needs
 
--- src/places.rt:82:24
 mul-t7 : tie.Need-mul-t7
 mul-t7 c = search needs
 
--- src/places.rt:82:24
 element-copy-out-t11 : tie.Need-element-copy-out-t11
 element-copy-out-t11 c = search needs
 
--- src/places.rt:83:28
 add-t8 : tie.Need-add-t8
 add-t8 c = search needs
 
--- src/places.rt:83:26
 mul-t19 : tie.Need-mul-t19
 mul-t19 c = search needs
 
--- src/places.rt:83:26
 element-copy-out-t22 : tie.Need-element-copy-out-t22
 element-copy-out-t22 c = search needs
 
--- src/places.rt:87:18
 add-t24 : tie.Need-add-t24
 add-t24 c = search needs
 
--- src/places.rt:87:16
 mul-t25 : tie.Need-mul-t25
 mul-t25 c = search needs
 
--- src/places.rt:87:16
 element-copy-out-t28 : tie.Need-element-copy-out-t28
 element-copy-out-t28 c = search needs
 
--- src/places.rt:73:1
 returns : tie.Need-returns
 unfolding pictureAt
 returns c =

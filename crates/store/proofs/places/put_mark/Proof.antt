@@ -8,31 +8,24 @@ use borrow.Author.Needs.{needs}
 use Rattle.store.proofs.places.put_mark.Statement.{statement}
 use Rattle.store.proofs.places.put_mark.Tie as tie
 
--- src/places.rt:143:5
 count-words-requires : tie.Need-count-words-requires
 count-words-requires c κs = search needs
 
--- src/places.rt:144:20
 mark-word-requires : tie.Need-mark-word-requires
 mark-word-requires c κs = search needs
 
--- src/places.rt:144:7
 mul-t : tie.Need-mul-t
 mul-t c = search needs
 
--- src/places.rt:144:7
 add-t : tie.Need-add-t
 add-t c = search needs
 
--- src/places.rt:144:5
 mul-t-2 : tie.Need-mul-t-2
 mul-t-2 c = search needs
 
--- src/places.rt:144:5
 element-write-t : tie.Need-element-write-t
 element-write-t c = search needs
 
--- src/places.rt:139:1
 returns : tie.Need-returns
 returns c =
     let s = c .before .before .before in

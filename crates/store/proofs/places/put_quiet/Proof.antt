@@ -6,27 +6,21 @@ use borrow.Author.Needs.{needs}
 use Rattle.store.proofs.places.put_quiet.Statement.{statement}
 use Rattle.store.proofs.places.put_quiet.Tie as tie
 
--- src/places.rt:152:5
 count-words-requires : tie.Need-count-words-requires
 count-words-requires c κs = search needs
 
--- src/places.rt:153:7
 mul-t : tie.Need-mul-t
 mul-t c = search needs
 
--- src/places.rt:153:7
 add-t : tie.Need-add-t
 add-t c = search needs
 
--- src/places.rt:153:5
 mul-t-2 : tie.Need-mul-t-2
 mul-t-2 c = search needs
 
--- src/places.rt:153:5
 element-write-t : tie.Need-element-write-t
 element-write-t c = search needs
 
--- src/places.rt:148:1
 returns : tie.Need-returns
 returns c =
     let s = c .before .before in

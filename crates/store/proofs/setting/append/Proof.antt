@@ -1,17 +1,18 @@
--- The first run stands in front, and behind it the members of the other walked over.
+-- The first run stands in front, and behind it the members of the other walked over; the words behind them are as they were.
 use mathlib.Core.List.{_++_, append-nil}
-use mathlib.Core.Path.{_≡_, sym}
+use mathlib.Core.Path.{_≡_, refl, sym, _∙_}
 use denote.Ref.{now}
 use native.Mathlib.Omega.{arith}
-use Prim.Native.Nat.{_+_, _-_, _≤_}
+use Prim.Native.Nat.{ℕ, _+_, _-_, _≤_}
 use Rattle.paper.specs.Words.{table}
 use Rattle.store.proofs.Runs.{append-more}
+use Rattle.store.specs.Shelf.{word}
 use Rattle.store.specs.Tails.{serialsIn}
 use Rattle.store.proofs.setting.append.Statement.{statement}
 use Rattle.store.proofs.setting.append.Tie as tie
 
 abbrev Inv-loop : tie.InvT-loop
-Inv-loop us₀ at xs n i₀ us i = (i ≤ n) × (serialsIn us (at + i) ≡ serialsIn us₀ at ++ serialsIn xs i)
+Inv-loop us₀ at xs n i₀ us i = (i ≤ n) × ((serialsIn us (at + i) ≡ serialsIn us₀ at ++ serialsIn xs i) × ((j : ℕ) → at + i ≤ j → word us j ≡ word us₀ j))
 
 abbrev μ-loop : tie.MeasureT-loop
 μ-loop us₀ at xs n i₀ us i = n - i
@@ -20,7 +21,7 @@ loop-holds : tie.Need-loop-holds Inv-loop μ-loop
 unfolding table
 loop-holds c =
     let e : c .args .at + 0 ≡ c .args .at = omega arith in
-    (omega arith, rw e (sym (append-nil (serialsIn (now (c .args .us)) (c .args .at)))))
+    (omega arith, (rw e (sym (append-nil (serialsIn (now (c .args .us)) (c .args .at)))), λ j l. refl))
 
 mul-x : tie.Need-mul-x Inv-loop μ-loop
 mul-x c = omega arith
@@ -44,7 +45,8 @@ loop-again : tie.Need-loop-again Inv-loop μ-loop
 loop-again c =
     let k = c .before .before .before .before in
     let a = k .before .args in
-    (omega arith, append-more (k .loop .us) (now (a .us)) (c .put-member .last .0) (now (a .xs)) (a .at) (k .loop .i) (k .loop .inv .1) (c .put-member .ensures))
+    let m = append-more (k .loop .us) (now (a .us)) (c .put-member .last .0) (now (a .xs)) (a .at) (k .loop .i) (k .loop .inv .1 .0) (c .put-member .ensures .0) in
+    (omega arith, (m, λ j l. c .put-member .ensures .1 j (omega arith) ∙ k .loop .inv .1 .1 j (omega arith)))
 
 returns : tie.Need-returns Inv-loop μ-loop
 returns c =

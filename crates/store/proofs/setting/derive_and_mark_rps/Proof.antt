@@ -48,9 +48,9 @@ returns c =
     let s = u .before .before in
     let a = s .args in
     let w = wishesIn (now (a .pocs)) (now (a .hows)) (a .neg) (a .pos) (a .lt) in
-    let m = rw (u .unmark-if .ensures) at (l .mark-long .ensures) in
+    let m = rw (u .unmark-if .ensures .0) at (l .mark-long .ensures) in
     derives (2 ^ (min (a .k) 16)) (unmarkedIf (a .over) (stored (now (a .t)))) w m (x .find-set .ensures .1) (y .find-set2 .ensures .1) (c .before .before .keep-marks .ensures)
-    (omega (arith, s .pre, m .few, x .find-set .ensures .0 .0, y .find-set2 .ensures .0 .0))
+    (u .unmark-if .ensures .1) (omega (arith, s .pre, m .few, x .find-set .ensures .0 .0, y .find-set2 .ensures .0 .0))
 
 pub derive-and-mark-rps-spec : {M : Type 1} → statement M
 derive-and-mark-rps-spec =

@@ -1,6 +1,6 @@
 -- One run has a member more, the other stays.
 use mathlib.Core.List.{append-nil}
-use mathlib.Core.Path.{sym}
+use mathlib.Core.Path.{sym, refl}
 use denote.Ref.{now}
 use native.Mathlib.Omega.{arith}
 use Rattle.store.specs.Tails.{serialsIn}
@@ -25,9 +25,10 @@ returns c =
     let t = c .before .before .if1 .taken in
     let a = c .before .before .before .args in
     record {
-      used = rw t (c .put-member .ensures);
+      used = rw t (c .put-member .ensures .0);
       rest = rw t (sym (append-nil (serialsIn (now (a .vs)) (a .n .rest))));
       counts = (rw t, rw t (omega arith));
+      behind = λ i l. c .put-member .ensures .1 i (omega arith);
     }
 
 returns-2 : tie.Need-returns-2
@@ -36,8 +37,9 @@ returns-2 c =
     let a = c .before .before .before .args in
     record {
       used = rw t (sym (append-nil (serialsIn (now (a .us)) (a .n .used))));
-      rest = rw t (c .put-member2 .ensures);
+      rest = rw t (c .put-member2 .ensures .0);
       counts = (rw t (omega arith), rw t);
+      behind = λ i l. refl;
     }
 
 pub join-spec : {M : Type 1} → statement M

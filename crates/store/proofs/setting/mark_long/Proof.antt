@@ -16,7 +16,13 @@ unfolding table
 returns c =
     let k = c .before .before .before .before in
     let j = k .find-set .ensures in
-    record { pics = rw (j .1 .used, j .1 .rest) at (c .mark-where .ensures .pics); used = j .1 .used; rest = j .1 .rest; few = omega (arith, j .0 .0) }
+    record {
+      pics = rw (j .1 .used, j .1 .rest) at (c .mark-where .ensures .pics);
+      used = j .1 .used;
+      rest = j .1 .rest;
+      few = omega (arith, j .0 .0);
+      normal = c .mark-where .ensures .normal;
+    }
 
 pub mark-long-spec : {M : Type 1} → statement M
 mark-long-spec = tie.close (tie.spec find-set-requires mark-where-requires returns)

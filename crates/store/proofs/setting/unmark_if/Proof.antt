@@ -9,10 +9,10 @@ mark-where-requires c κs = search needs
 
 returns : tie.Need-returns
 unfolding table anyB
-returns c = rw (c .before .before .before .before .if1 .taken) (c .mark-where .ensures .pics)
+returns c = (rw (c .before .before .before .before .if1 .taken) (c .mark-where .ensures .pics), c .mark-where .ensures .normal)
 
 returns-2 : tie.Need-returns-2
-returns-2 c = rw (c .if1 .left)
+returns-2 c = (rw (c .if1 .left), λ h. h)
 
 pub unmark-if-spec : {M : Type 1} → statement M
 unmark-if-spec = tie.close (tie.spec mark-where-requires returns returns-2)

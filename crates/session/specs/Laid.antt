@@ -1,0 +1,65 @@
+-- The words that a session is written as beside its sets and its store, and the normal form of a memory: those words, and a store in its normal form.
+use Prim.Native.Nat.{ℕ}
+use mathlib.Core.Path.{_≡_}
+use mathlib.Core.List.{List, [], _∷_, _++_}
+use lib.ListN.{length}
+use lib.IntN.{ℤ}
+use mir.Syntax.{w32}
+use mir.Val.{ofZ}
+use Rattle.paper.specs.State.{isCurrent, onNow}
+use Rattle.paper.specs.State as P
+use Rattle.paper.specs.declared.Limits.{Limits}
+use Rattle.paper.specs.declared.Prev.{Prev}
+use Rattle.paper.specs.declared.Prev.the-variants as Prev
+use Rattle.paper.specs.declared.Now.{Now}
+use Rattle.derivation.specs.declared.rows.Refs.{Refs}
+use Rattle.store.specs.Shelf.{NormalForm}
+use Rattle.session.specs.View.{Memory, Front, flagWord, sessionIn}
+
+abbrev pub limitsWords : Limits → List ℕ
+limitsWords l = l .k ∷ l .capacity ∷ l .buffering ∷ l .reorder ∷ l .latency ∷ []
+
+-- one number where no Tid0 picture was, another of the previous one's lsb and msb
+abbrev pub onPrev : Prev → ℕ → (ℕ → ℤ → ℕ) → ℕ
+onPrev Prev.Nothing x g = x
+onPrev (Prev.Tid0 lsb msb) x g = g lsb msb
+
+abbrev pub prevWords : Prev → List ℕ
+prevWords q = onPrev q 0 (λ lsb msb. 1) ∷ onPrev q 0 (λ lsb msb. lsb) ∷ onPrev q 0 (λ lsb msb. ofZ w32 msb) ∷ []
+
+abbrev pub nowWords : Now → List ℕ
+nowWords n =
+    flagWord (isCurrent n)
+    ∷ onNow n 0 (λ c. c .serial .0)
+    ∷ onNow n 0 (λ c. c .surface .0)
+    ∷ onNow n 0 (λ c. ofZ w32 (c .poc))
+    ∷ onNow n 0 (λ c. c .lsb)
+    ∷ onNow n 0 (λ c. ofZ w32 (c .msb))
+    ∷ onNow n 0 (λ c. flagWord (c .output))
+    ∷ onNow n 0 (λ c. flagWord (c .valid))
+    ∷ []
+
+abbrev pub sizeWords : Refs → List ℕ
+sizeWords x = x .before ∷ x .after ∷ x .long ∷ []
+
+-- twenty-three words: four, then those of each part
+unfoldable pub headWords : Front → List ℕ
+headWords f =
+    (flagWord (f .configured) ∷ flagWord (f .start) ∷ flagWord (f .ended) ∷ f .next ∷ [])
+    ++ limitsWords (f .limits) ++ prevWords (f .prev) ++ nowWords (f .current) ++ sizeWords (f .refs)
+
+-- what they say of a session
+abbrev pub sizesOf : P.Refs → Refs
+sizesOf x = record { before = length (x .before); after = length (x .after); long = length (x .ltCurr) }
+
+abbrev pub frontOf : P.Session → Front
+frontOf s =
+    record { configured = s .configured; limits = s .limits; current = s .current; refs = sizesOf (s .refs); prev = s .prev; start = s .atStart; ended = s .ended; next = s .next }
+
+abbrev pub headOf : P.Session → List ℕ
+headOf s = headWords (frontOf s)
+
+-- the normal form: the words beside the store are those that the session is written as, and behind the length of the store all is blank
+pub record NormalMemory (m : Memory) : Type 0 where
+  pub head : m .head ≡ headOf (sessionIn m)
+  pub places : NormalForm (m .places)
