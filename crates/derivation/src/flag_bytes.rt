@@ -24,6 +24,13 @@ pub fn bit2(f: u8) -> bool
     f & 4 != 0
 }
 
+// Bit 3 of a flag byte.
+pub fn bit3(f: u8) -> bool
+    ensures { λ r. ⌜ r ≡ bit 3 f ⌝ }
+{
+    f & 8 != 0
+}
+
 // Whether the bits from 2 on are 0: "spare flag bits 0".
 pub fn spare2(f: u8) -> bool
     ensures { λ r. ⌜ r ≡ ltb f 4 ⌝ }
@@ -36,4 +43,11 @@ pub fn spare3(f: u8) -> bool
     ensures { λ r. ⌜ r ≡ ltb f 8 ⌝ }
 {
     f & 248 == 0
+}
+
+// Whether the bits from 4 on are 0, which the flags of a begun picture leave spare.
+pub fn spare4(f: u8) -> bool
+    ensures { λ r. ⌜ r ≡ ltb f 16 ⌝ }
+{
+    f & 240 == 0
 }

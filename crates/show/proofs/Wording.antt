@@ -1,11 +1,11 @@
 -- The words of kinds and refusals, and the texts of a reply at their places.
-use Prim.Native.Nat.{ℕ, zero, suc, _+_, _-_, _*_, _/_, _%_, _≤_, _<_}
+use Prim.Native.Nat.{ℕ, zero, suc, _+_, _-_, _*_, _<_}
 use mathlib.Core.Path.{_≡_, refl, sym, ap, ap₂, _∙_}
 use mathlib.Core.List.{List, [], _∷_, _++_}
-use mathlib.Core.Bool.{Bool, true, false, cond, not}
+use mathlib.Core.Bool.{Bool, true, false, cond}
 use native.Mathlib.Omega.{arith}
-use borrow.Author.Tests.{eq-eqb, ne-eqb, lt-ltb, le-ltb}
-use lib.Dec.{ltb, eqb}
+use borrow.Author.Tests.{eq-eqb, ne-eqb}
+use lib.Dec.{ltb}
 use lib.IntN.{ℤ}
 use lib.ListN.{length, getD, drop}
 use lib.Seq.{drop-drop}
@@ -61,19 +61,14 @@ other-refusal (suc (suc (suc (suc (suc (suc (suc (suc (suc (suc (suc (suc (suc z
 other-refusal (suc (suc (suc (suc (suc (suc (suc (suc (suc (suc (suc (suc (suc (suc zero)))))))))))))) h1 h2 h3 h4 h5 h6 h7 h8 h9 h10 h11 h12 h13 h14 = absurd (h14 refl)
 other-refusal (suc (suc (suc (suc (suc (suc (suc (suc (suc (suc (suc (suc (suc (suc (suc n))))))))))))))) h1 h2 h3 h4 h5 h6 h7 h8 h9 h10 h11 h12 h13 h14 = refl
 
--- bit 0 needs no division
-pub bit-0 : (n : ℕ) → eqb (n % 2) 1 ≡ bit 0 n
-unfolding bit
-bit-0 n = let e : n ≡ n / 1 = omega arith in ap (λ (k : ℕ). eqb (k % 2) 1) e
-
 -- the flags: by name, or the byte
-pub spare-flags : (n : ℕ) (a b c e : Bool) → 15 < n → flagsText n a b c e ≡ ascii " flags=" ++ decimal n
+pub spare-flags : (n : ℕ) (a b c e : Bool) → ltb n 16 ≡ false → flagsText n a b c e ≡ ascii " flags=" ++ decimal n
 unfolding flagsText
-spare-flags n a b c e h = simp (le-ltb n 16 (omega arith))
+spare-flags n a b c e h = simp h
 
-pub plain-flags : (n : ℕ) (a b c e : Bool) → n ≤ 15 → flagsText n a b c e ≡ cond a (ascii " norasl") [] ++ cond b (ascii " output") [] ++ cond c (ascii " valid") [] ++ cond e (ascii " noprior") []
+pub plain-flags : (n : ℕ) (a b c e : Bool) → ltb n 16 ≡ true → a ≡ bit 0 n → b ≡ bit 1 n → c ≡ bit 2 n → e ≡ bit 3 n → cond a (ascii " norasl") [] ++ cond b (ascii " output") [] ++ cond c (ascii " valid") [] ++ cond e (ascii " noprior") [] ≡ flagsText n (bit 0 n) (bit 1 n) (bit 2 n) (bit 3 n)
 unfolding flagsText
-plain-flags n a b c e h = simp (lt-ltb n 16 (omega arith))
+plain-flags n a b c e h p q r s = rw (p, q, r, s) (simp h)
 
 module _ (r : List ℕ) where
   -- what begin says of its picture

@@ -1,6 +1,7 @@
 // One line for each reply.
 use crate::lists;
 use crate::text;
+use derivation::flag_bytes;
 ghost use mathlib.Core.Path.{_≡_};
 ghost use mathlib.Core.List.{[], _∷_, _++_};
 ghost use Prim.Native.Nat.{ℕ, _+_, _-_, _*_, _≤_, _<_};
@@ -83,14 +84,14 @@ fn put_flags(d: &mut [u8], at: usize, flags: u8) -> usize
     requires { ⌜ at + 28 ≤ length (now d) ⌝ }
     ensures { λ r. ⌜ Wrote (now (d .entry)) at (flagsText flags (bit 0 flags) (bit 1 flags) (bit 2 flags) (bit 3 flags)) 28 r (now (d .exit)) ⌝ }
 {
-    if flags > 15 {
+    if !flag_bytes::spare4(flags) {
         let a = text::put(d, at, b" flags=");
         return text::put_u32(d, a, flags as u32);
     }
-    let a = text::put_if(d, at, flags % 2 == 1, b" norasl");
-    let b = text::put_if(d, a, flags / 2 % 2 == 1, b" output");
-    let c = text::put_if(d, b, flags / 4 % 2 == 1, b" valid");
-    text::put_if(d, c, flags / 8 % 2 == 1, b" noprior")
+    let a = text::put_if(d, at, flag_bytes::bit0(flags), b" norasl");
+    let b = text::put_if(d, a, flag_bytes::bit1(flags), b" output");
+    let c = text::put_if(d, b, flag_bytes::bit2(flags), b" valid");
+    text::put_if(d, c, flag_bytes::bit3(flags), b" noprior")
 }
 
 // "POC i32, flags u8, .. serial u32" of a begun picture.

@@ -1,4 +1,5 @@
 // Words and numbers, written into a lent buffer. Each function gives the place behind what it wrote.
+use store::Store;
 ghost use mathlib.Core.Path.{_≡_};
 ghost use mathlib.Core.List.{[], _∷_, _++_};
 ghost use mathlib.Core.Bool.{cond};
@@ -64,7 +65,7 @@ pub(crate) fn put_signed(d: &mut [u8], at: usize, x: u32) -> usize
         return put_u32(d, at, x);
     }
     let a = put(d, at, b"-");
-    put_u32(d, a, 0xffff_ffff - x + 1)
+    put_u32(d, a, u32::MAX - x + 1)
 }
 
 // A u32 of a list. Where it is a serial that may be missing, "4,294,967,295 stands for a missing picture".
@@ -72,7 +73,7 @@ pub(crate) fn put_item(d: &mut [u8], at: usize, x: u32, may_miss: bool) -> usize
     requires { ⌜ at + 10 ≤ length (now d) ⌝ }
     ensures { λ r. ⌜ Wrote (now (d .entry)) at (spelled «may_miss» x) 10 r (now (d .exit)) ⌝ }
 {
-    if may_miss & (x == 0xffff_ffff) {
+    if may_miss & (x == Store::MISSING) {
         return put(d, at, b"missing");
     }
     put_u32(d, at, x)

@@ -28,8 +28,8 @@ fn waiting_count(l: Lines) -> usize
     k
 }
 
-// The lines held, of which there are at most 16.
-fn at_most_16(l: Lines) -> Lines
+// The lines held, of which there are no more than a store holds.
+fn within_capacity(l: Lines) -> Lines
     ensures { λ r. ⌜ r ≡ clamped l ⌝ }
 {
     let n = clamp(l.len);
@@ -43,7 +43,7 @@ pub fn waiting(b: Book) -> usize
     ensures { λ r. ⌜ r ≡ length (wanting (bookIn b .held)) ⌝ }
 {
     let l = b.held;
-    waiting_count(at_most_16(l))
+    waiting_count(within_capacity(l))
 }
 
 // How many pictures are current: one or none.
@@ -62,5 +62,5 @@ pub fn surfaces(b: Book) -> usize
     ensures { λ r. ⌜ r ≡ length (bookIn b .held ++ bookIn b .current) ⌝ }
 {
     let l = b.held;
-    used_places(at_most_16(l)) + current(b)
+    used_places(within_capacity(l)) + current(b)
 }

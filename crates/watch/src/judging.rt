@@ -15,6 +15,7 @@ use framing::thrown_at;
 use paper::Line;
 use paper::Serial;
 use paper::Surface;
+use store::Store;
 ghost use mathlib.Core.Path.{_≡_};
 ghost use mathlib.Core.Bool.{not};
 ghost use Prim.Native.Nat.{_+_, _*_, _≤_, _<_};
@@ -25,13 +26,11 @@ ghost use Rattle.watch.specs.Book.{Holds, view, Good, currentIn};
 ghost use Rattle.watch.specs.Judging.{Tidy, Judged, Lists, Ends, Abandons, Lands, calls};
 ghost use Rattle.watch.specs.Places.{startedIn, doneIn};
 
-const MISSING: u32 = 4294967295;
-
 // Whether a member is missing or one of these lines.
 fn is_known(l: Lines, n: Serial) -> bool
     ensures { λ r. ⌜ r ≡ calls (view l) n ⌝ }
 {
-    if n.0 == MISSING {
+    if n.0 == Store::MISSING {
         return true;
     }
     has_any(l, Ask::Named(n))
@@ -213,7 +212,7 @@ fn landed(b: Book, kind: u16, reply: &[u8]) -> Heard
     if !(kind == 4) & !(n == 0) {
         return Heard { part: 15, book: b };
     }
-    if Lines::HELD < n {
+    if Store::CAPACITY < n {
         return Heard { part: 16, book: b };
     }
     let tally = b.tally;

@@ -1,5 +1,5 @@
 // A tenant's check of demand 3, from records and replies alone: the ledger of document 01's demand in arrays of fixed size. It judges the replies of any
-// session, so nothing is asked of them, nor of the book: a length over 16 counts as 16.
+// session, so nothing is asked of them, nor of the book: a length over the greatest capacity, 16, counts as that.
 mod counting;
 mod events;
 mod judging;
@@ -16,6 +16,7 @@ pub use pairing::hear_all;
 use paper::Line;
 use paper::Serial;
 use paper::Surface;
+use store::Store;
 ghost use mathlib.Core.List.{[]};
 ghost use Rattle.paper.specs.Ledger.{blank};
 ghost use Rattle.watch.specs.Book.{Holds, HoldsBook, noTally};
@@ -55,11 +56,8 @@ pub struct Heard {
 }
 
 impl Lines {
-    // A store holds at most 16 pictures.
-    pub const HELD: usize = 16;
-
     // The pictures stored and the current one.
-    pub const PLACES: usize = 17;
+    pub const PLACES: usize = Store::TAIL;
 
     // No line.
     pub fn none() -> Self

@@ -9,6 +9,7 @@ use crate::tests::changed;
 use crate::tests::stays;
 use paper::Line;
 use paper::Surface;
+use store::Store;
 ghost use mathlib.Core.Path.{_≡_};
 ghost use mathlib.Core.List.{[], _∷_, _++_, map};
 ghost use Prim.Native.Nat.{_≤_, _<_, min};
@@ -18,7 +19,7 @@ ghost use Rattle.paper.specs.Ledger.{free};
 ghost use Rattle.watch.specs.Book.{Holds, HoldsBook, view, Good, currentIn, clamped, bookIn};
 ghost use Rattle.watch.specs.Walks.{asking, changing, away};
 
-// How many places are used: a length over 17 counts as 17.
+// How many places are used: a length over their number counts as their number.
 pub(crate) fn used_places(l: Lines) -> usize
     ensures { λ r. ⌜ (r ≡ length (view l)) × (r ≤ 17) ⌝ }
 {
@@ -110,14 +111,18 @@ pub(crate) fn joined(l: Lines, c: Slot) -> Lines
     }
 }
 
-// At most 16.
+// At most the greatest capacity of a store.
 pub(crate) fn clamp(n: usize) -> usize
     ensures { λ r. ⌜ r ≡ min n 16 ⌝ }
 {
-    if n < Lines::HELD { n } else { Lines::HELD }
+    if n < Store::CAPACITY {
+        n
+    } else {
+        Store::CAPACITY
+    }
 }
 
-// The lines held, of which there are at most 16, in normal form.
+// The lines held, of which there are no more than a store holds, in normal form.
 fn held_of(l: Lines) -> Lines
     ensures { λ r. ⌜ Holds r (view (clamped l)) × (r .len ≤ 16) ⌝ }
 {

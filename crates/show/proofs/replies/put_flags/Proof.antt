@@ -1,15 +1,16 @@
--- By name, or the byte.
-use mathlib.Core.Path.{sym, ap}
-use mathlib.Core.Bool.{Bool, cond}
-use mathlib.Core.List.{[]}
+-- The flags by name where the spare bits are 0, else the byte: each mask gives the digit that the text asks for.
+use mathlib.Core.Path.{sym, _∙_}
+use borrow.Author.Tests.{not-true, not-false}
 use borrow.Author.Needs.{needs}
 use native.Mathlib.Omega.{arith}
 use Rattle.paper.specs.Numbers.{bit}
-use Rattle.show.specs.Text.{ascii}
 use Rattle.show.proofs.Spelling.{_then_, retold, roomier}
-use Rattle.show.proofs.Wording.{bit-0, spare-flags, plain-flags}
+use Rattle.show.proofs.Wording.{spare-flags, plain-flags}
 use Rattle.show.proofs.replies.put_flags.Statement.{statement}
 use Rattle.show.proofs.replies.put_flags.Tie as tie
+
+spare4-requires : tie.Need-spare4-requires
+spare4-requires c κs = search needs
 
 slice-aggregate-put : tie.Need-slice-aggregate-put
 slice-aggregate-put c = search needs
@@ -25,8 +26,12 @@ same-length c = search needs
 
 returns : tie.Need-returns
 returns c =
-    let n = c .before .before .before .before .before .before .before .before .before .before .before .args .flags in
-    roomier (omega arith) (retold (sym (spare-flags n (bit 0 n) (bit 1 n) (bit 2 n) (bit 3 n) (c .before .before .before .before .before .before .before .before .before .if1 .taken))) (c .before .before .before .before .before .before .put .ensures then c .before .before .put-u32 .ensures))
+    let n = c .before .before .before .before .before .before .before .before .before .before .before .before .args .flags in
+    let h = sym (c .before .before .before .before .before .before .before .before .before .before .spare4 .ensures) ∙ not-true _ (c .before .before .before .before .before .before .before .before .before .if1 .taken) in
+    roomier (omega arith) (retold (sym (spare-flags n (bit 0 n) (bit 1 n) (bit 2 n) (bit 3 n) h)) (c .before .before .before .before .before .before .put .ensures then c .before .before .put-u32 .ensures))
+
+bit0-requires : tie.Need-bit0-requires
+bit0-requires c κs = search needs
 
 slice-aggregate-put-if : tie.Need-slice-aggregate-put-if
 slice-aggregate-put-if c = search needs
@@ -34,17 +39,26 @@ slice-aggregate-put-if c = search needs
 put-if-requires : tie.Need-put-if-requires
 put-if-requires c κs = search needs
 
+bit1-requires : tie.Need-bit1-requires
+bit1-requires c κs = search needs
+
 slice-aggregate-put-if-2 : tie.Need-slice-aggregate-put-if-2
 slice-aggregate-put-if-2 c = search needs
 
 put-if-requires-2 : tie.Need-put-if-requires-2
 put-if-requires-2 c κs = search needs
 
+bit2-requires : tie.Need-bit2-requires
+bit2-requires c κs = search needs
+
 slice-aggregate-put-if-3 : tie.Need-slice-aggregate-put-if-3
 slice-aggregate-put-if-3 c = search needs
 
 put-if-requires-3 : tie.Need-put-if-requires-3
 put-if-requires-3 c κs = search needs
+
+bit3-requires : tie.Need-bit3-requires
+bit3-requires c κs = search needs
 
 slice-aggregate-put-if-4 : tie.Need-slice-aggregate-put-if-4
 slice-aggregate-put-if-4 c = search needs
@@ -56,27 +70,34 @@ same-length-2 : tie.Need-same-length-2
 same-length-2 c = search needs
 
 returns-2 : tie.Need-returns-2
-unfolding bit
 returns-2 c =
-    let n = c .before .before .before .before .before .before .before .before .before .before .before .before .before .before .before .before .before .before .before .before .before .before .args .flags in
-    let first = retold (ap (λ (b : Bool). cond b (ascii " norasl") []) (bit-0 n)) (c .before .before .before .before .before .before .before .before .before .before .before .before .before .before .before .before .before .put-if .ensures) in
-    retold (sym (plain-flags n (bit 0 n) (bit 1 n) (bit 2 n) (bit 3 n) (c .before .before .before .before .before .before .before .before .before .before .before .before .before .before .before .before .before .before .before .before .if1 .left))) (first then c .before .before .before .before .before .before .before .before .before .before .before .before .put-if2 .ensures then c .before .before .before .before .before .before .before .put-if3 .ensures then c .before .before .put-if4 .ensures)
+    let first = c .before .before .before .before .before .before .before .before .before .before .before .before .before .before .before .before .before .before .before .before .before .before .bit0 in
+    let second = c .before .before .before .before .before .before .before .before .before .before .before .before .before .before .before .before .bit1 in
+    let third = c .before .before .before .before .before .before .before .before .before .before .bit2 in
+    let fourth = c .before .before .before .before .bit3 in
+    let h = sym (c .before .before .before .before .before .before .before .before .before .before .before .before .before .before .before .before .before .before .before .before .before .before .before .before .before .spare4 .ensures) ∙ not-false _ (c .before .before .before .before .before .before .before .before .before .before .before .before .before .before .before .before .before .before .before .before .before .before .before .before .if1 .left) in
+    retold (plain-flags (c .before .before .before .before .before .before .before .before .before .before .before .before .before .before .before .before .before .before .before .before .before .before .before .before .before .before .before .args .flags) (first .result) (second .result) (third .result) (fourth .result) h (first .ensures) (second .ensures) (third .ensures) (fourth .ensures)) (c .before .before .before .before .before .before .before .before .before .before .before .before .before .before .before .before .before .before .before .before .put-if .ensures then c .before .before .before .before .before .before .before .before .before .before .before .before .before .before .put-if2 .ensures then c .before .before .before .before .before .before .before .before .put-if3 .ensures then c .before .before .put-if4 .ensures)
 
 pub put-flags-spec : {M : Type 1} → statement M
 put-flags-spec =
     tie.close
     (tie.spec
+    spare4-requires
     slice-aggregate-put
     put-requires
     put-u32-requires
     same-length
     returns
+    bit0-requires
     slice-aggregate-put-if
     put-if-requires
+    bit1-requires
     slice-aggregate-put-if-2
     put-if-requires-2
+    bit2-requires
     slice-aggregate-put-if-3
     put-if-requires-3
+    bit3-requires
     slice-aggregate-put-if-4
     put-if-requires-4
     same-length-2

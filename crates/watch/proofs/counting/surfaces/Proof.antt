@@ -4,8 +4,8 @@ use borrow.Author.Needs.{needs}
 use Rattle.watch.proofs.counting.surfaces.Statement.{statement}
 use Rattle.watch.proofs.counting.surfaces.Tie as tie
 
-at-most-16-requires : tie.Need-at-most-16-requires
-at-most-16-requires c κs = search needs
+within-capacity-requires : tie.Need-within-capacity-requires
+within-capacity-requires c κs = search needs
 
 used-places-requires : tie.Need-used-places-requires
 used-places-requires c κs = search needs
@@ -17,9 +17,9 @@ add-result : tie.Need-add-result
 add-result c = search needs
 
 returns : tie.Need-returns
-returns c = rw (c .current .ensures .0, c .before .used-places .ensures .0, c .before .before .at-most-16 .ensures) (simp length-append)
+returns c = rw (c .current .ensures .0, c .before .used-places .ensures .0, c .before .before .within-capacity .ensures) (simp length-append)
 
 pub surfaces-spec : {M : Type 1} → statement M
 surfaces-spec =
     tie.close
-    (tie.spec at-most-16-requires used-places-requires current-requires add-result returns)
+    (tie.spec within-capacity-requires used-places-requires current-requires add-result returns)
