@@ -21,7 +21,7 @@ use Rattle.paper.specs.declared.Now.the-variants as Now
 use Rattle.paper.specs.Words.{table}
 use Rattle.paper.specs.Numbers.{serialNos, aSerial, flagAt}
 use Rattle.paper.specs.Flags.{validPrev}
-use Rattle.paper.specs.State.{Session, isCurrent, modulus, allRefs}
+use Rattle.paper.specs.State.{Session, modulus, allRefs}
 use Rattle.paper.specs.Records.{Fields, fieldsOf}
 use Rattle.paper.specs.Ranges.{beginRanges}
 use Rattle.paper.specs.Poc.{in32, msbOf, pocOf}
@@ -54,7 +54,7 @@ use Rattle.store.specs.Bumps.{Leaves}
 use Rattle.store.specs.Runs.{wishesIn, HoldsSets, Derives}
 use Rattle.session.specs.Laid.{sizesOf, frontOf, headWords}
 use Rattle.session.specs.Laid as Laid
-use Rattle.session.specs.View.{Memory, memory, sessionIn, sessionOf, Front, frontIn, limitsAt, currentAt, nowAt, flagOf, begunFront}
+use Rattle.session.specs.View.{Memory, memory, sessionIn, sessionOf, Front, frontIn, limitsAt, flagOf, begunFront}
 use Rattle.session.specs.Said.{Says, Answers, Does}
 use Rattle.session.specs.Parts.{headOf, HoldsWishes}
 use Rattle.session.specs.Written.{FewMembers, numbersFrom, memberBytes, begunPart, toldBytes}
@@ -311,13 +311,6 @@ module _ (m : Memory) (r : List ℕ) (h : Head) (t : Start) (ps : List ℤ) (hs 
       })
 
 -- ---- the stages' own facts
-
-pub is-now : (h : List ℕ) → isCurrent (nowAt h) ≡ flagOf (word h 12)
-is-now h = go (flagOf (word h 12))
-  where
-    go : (b : Bool) → isCurrent (cond b (Now.Is (currentAt h)) Now.Idle) ≡ b
-    go true = refl
-    go false = refl
 
 pub fits-back : (z : ℤ) → in32 z ≡ true → toZ w32 (ofZ w32 z) ≡ z
 fits-back z e = toZ-ofZ (record { sfits = ltb-true (mag z) (2 ^ 31) e })

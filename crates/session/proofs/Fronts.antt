@@ -2,6 +2,7 @@
 use Prim.Native.Nat.{ℕ, zero, suc, _≤_}
 use mathlib.Core.Path.{_≡_, refl, sym, _∙_, ap, subst}
 use mathlib.Core.List.{List, [], _∷_}
+use mathlib.Core.Bool.{Bool, true, false, cond}
 use native.Mathlib.Nat.{mod-eq-of-lt}
 use native.Mathlib.Omega.{arith}
 use lib.ListN.{length, take, set}
@@ -11,12 +12,14 @@ use mir.Syntax.{w8, w16, w32}
 use mir.Val.{Fits, SFits, ofZ}
 use mir.ValLaws.{toZ-ofZ}
 use Rattle.paper.specs.Words.{table}
+use Rattle.paper.specs.State.{isCurrent}
 use Rattle.paper.specs.declared.Limits.{Limits}
 use Rattle.paper.specs.declared.Current.{Current}
 use Rattle.paper.specs.declared.Prev.the-variants as Prev
+use Rattle.paper.specs.declared.Now.the-variants as Now
 use Rattle.derivation.specs.declared.rows.Refs.{Refs}
 use Rattle.store.specs.Shelf.{word}
-use Rattle.session.specs.View.{flagWord, Front, frontIn, idleFront, configuredFront, begunFront, endedFront}
+use Rattle.session.specs.View.{flagOf, flagWord, currentAt, nowAt, Front, frontIn, idleFront, configuredFront, begunFront, endedFront}
 use Rattle.session.specs.Laid.{headWords}
 use Rattle.store.proofs.Shelf.{flag-back}
 
@@ -96,3 +99,11 @@ module _ (h : List ℕ) (f : Front) (e : h ≡ headWords f) where
   pub words-ended : set h 2 1 ≡ headWords (endedFront f)
   unfolding headWords
   words-ended = ap (λ (l : List ℕ). set l 2 1) e
+
+-- a picture is current when its flag is on
+pub is-now : (h : List ℕ) → isCurrent (nowAt h) ≡ flagOf (word h 12)
+is-now h = go (flagOf (word h 12))
+  where
+    go : (b : Bool) → isCurrent (cond b (Now.Is (currentAt h)) Now.Idle) ≡ b
+    go true = refl
+    go false = refl

@@ -24,16 +24,6 @@ ghost use Rattle.store.specs.Shelf.{stored};
 ghost use Rattle.session.specs.View.{memory, sessionIn, nowAt};
 ghost use Rattle.session.specs.Said.{Does, Roomy, Drained};
 
-// Whether a picture is current.
-fn is_current(x: Now) -> bool
-    ensures { λ r. ⌜ r ≡ isCurrent x ⌝ }
-{
-    match x {
-        Now::Idle => false,
-        Now::Is(_) => true,
-    }
-}
-
 // "If valid .. it becomes the previous Tid0 picture."
 fn prev_after(q: Prev, c: Current) -> Prev
     ensures { λ r. ⌜ r ≡ prevAfter q c ⌝ }
@@ -97,7 +87,7 @@ fn is_stuck(head: &[u32; HEAD], places: &[u32; Store::WORDS]) -> bool
     ensures { λ r. ⌜ ((xs : List ℕ) → r ≡ (isCurrent (nowAt (now (head .entry))) && full (sessionIn (memory (now (head .entry)) xs (now (places .entry)))))) ⌝ }
 {
     let l = heads::limits_in(head);
-    is_current(heads::now_in(head)) & store::is_full(places, l)
+    heads::is_busy(head) & store::is_full(places, l)
 }
 
 // A current picture is finished under the old limits and the store emptied, with the reply of kind `kind`.

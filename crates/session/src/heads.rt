@@ -1,4 +1,5 @@
-// The words of a session beside its store: what they say, and how they are written.
+// The words of a session beside its store and its sets: what they say, and how they are written.
+// No other file touches one of them by its number.
 use crate::HEAD;
 use derivation::rows::Refs;
 use paper::Current;
@@ -10,11 +11,67 @@ use paper::Surface;
 ghost use mathlib.Core.Path.{_≡_};
 ghost use Prim.Native.Nat.{_%_};
 ghost use lib.ListN.{length};
+ghost use Rattle.paper.specs.Numbers.{aSerial};
+ghost use Rattle.paper.specs.State.{fresh as freshSession};
+ghost use Rattle.store.specs.Shelf.{word};
 ghost use Rattle.session.specs.View.{Front, flagOf, flagWord, limitsAt, prevAt, currentAt, nowAt, refsAt, frontIn, idleFront, configuredFront, begunFront, endedFront};
-ghost use Rattle.session.specs.Laid.{headWords};
+ghost use Rattle.session.specs.Laid.{headWords, frontOf, headOf};
+
+// Words 0 to 3: whether configure was accepted, whether the next begin is first in the bitstream,
+// whether it is first after end of sequence, and its serial.
+const CONFIGURED: usize = 0;
+
+const FIRST: usize = 1;
+
+const ENDED: usize = 2;
+
+const NEXT: usize = 3;
+
+// Words 4 to 8: the limits that configure set.
+const K: usize = 4;
+
+const CAPACITY: usize = 5;
+
+const BUFFERING: usize = 6;
+
+const REORDER: usize = 7;
+
+const LATENCY: usize = 8;
+
+// Words 9 to 11: whether there is a previous Tid0 picture, its lsb and its MSB.
+const PREV: usize = 9;
+
+const PREV_LSB: usize = 10;
+
+const PREV_MSB: usize = 11;
+
+// Words 12 to 19: whether a picture is current, and what is known of it.
+const CURRENT: usize = 12;
+
+const SERIAL: usize = 13;
+
+const SURFACE: usize = 14;
+
+const POC: usize = 15;
+
+const LSB: usize = 16;
+
+const MSB: usize = 17;
+
+const OUTPUT: usize = 18;
+
+const VALID: usize = 19;
+
+// Words 20 to 22: the sizes of its sets StCurrBefore, StCurrAfter and LtCurr, whose members lie one
+// behind the other in a run of their own.
+const BEFORE: usize = 20;
+
+const AFTER: usize = 21;
+
+const LONG: usize = 22;
 
 // A flag is on unless its word is 0.
-pub(crate) fn flag_of(x: u32) -> bool
+fn flag_of(x: u32) -> bool
     ensures { λ r. ⌜ r ≡ flagOf x ⌝ }
 {
     x != 0
@@ -48,15 +105,50 @@ fn count_head(words: [u32; HEAD]) -> usize
     HEAD
 }
 
+// Whether configure was accepted.
+pub(crate) fn is_configured(h: &[u32; HEAD]) -> bool
+    ensures { λ r. ⌜ r ≡ flagOf (word (now (h .entry)) 0) ⌝ }
+{
+    flag_of(h[CONFIGURED])
+}
+
+// Whether the next begin is first in the bitstream.
+pub(crate) fn is_first(h: &[u32; HEAD]) -> bool
+    ensures { λ r. ⌜ r ≡ flagOf (word (now (h .entry)) 1) ⌝ }
+{
+    flag_of(h[FIRST])
+}
+
+// Whether the next begin is first after end of sequence.
+pub(crate) fn is_ended(h: &[u32; HEAD]) -> bool
+    ensures { λ r. ⌜ r ≡ flagOf (word (now (h .entry)) 2) ⌝ }
+{
+    flag_of(h[ENDED])
+}
+
+// The serial of the next begin.
+pub(crate) fn next_serial(h: &[u32; HEAD]) -> Serial
+    ensures { λ r. ⌜ r ≡ aSerial (word (now (h .entry)) 3) ⌝ }
+{
+    Serial(h[NEXT])
+}
+
+// Whether a picture is current.
+pub(crate) fn is_busy(h: &[u32; HEAD]) -> bool
+    ensures { λ r. ⌜ r ≡ flagOf (word (now (h .entry)) 12) ⌝ }
+{
+    flag_of(h[CURRENT])
+}
+
 // What configure set.
 pub(crate) fn limits_in(h: &[u32; HEAD]) -> Limits
     ensures { λ r. ⌜ r ≡ limitsAt (now (h .entry)) ⌝ }
 {
-    let k = low8(h[4]);
-    let capacity = low8(h[5]);
-    let buffering = low8(h[6]);
-    let reorder = low8(h[7]);
-    let latency = low16(h[8]);
+    let k = low8(h[K]);
+    let capacity = low8(h[CAPACITY]);
+    let buffering = low8(h[BUFFERING]);
+    let reorder = low8(h[REORDER]);
+    let latency = low16(h[LATENCY]);
     Limits {
         k,
         capacity,
@@ -70,9 +162,9 @@ pub(crate) fn limits_in(h: &[u32; HEAD]) -> Limits
 pub(crate) fn prev_in(h: &[u32; HEAD]) -> Prev
     ensures { λ r. ⌜ r ≡ prevAt (now (h .entry)) ⌝ }
 {
-    let is = flag_of(h[9]);
-    let lsb = low16(h[10]);
-    let msb = wire::signed(h[11]);
+    let is = flag_of(h[PREV]);
+    let lsb = low16(h[PREV_LSB]);
+    let msb = wire::signed(h[PREV_MSB]);
     if is {
         Prev::Tid0 { lsb, msb }
     } else {
@@ -84,14 +176,14 @@ pub(crate) fn prev_in(h: &[u32; HEAD]) -> Prev
 fn current_in(h: &[u32; HEAD]) -> Current
     ensures { λ r. ⌜ r ≡ currentAt (now (h .entry)) ⌝ }
 {
-    let poc = wire::signed(h[15]);
-    let lsb = low16(h[16]);
-    let msb = wire::signed(h[17]);
-    let output = flag_of(h[18]);
-    let valid = flag_of(h[19]);
+    let poc = wire::signed(h[POC]);
+    let lsb = low16(h[LSB]);
+    let msb = wire::signed(h[MSB]);
+    let output = flag_of(h[OUTPUT]);
+    let valid = flag_of(h[VALID]);
     Current {
-        serial: Serial(h[13]),
-        surface: Surface(h[14]),
+        serial: Serial(h[SERIAL]),
+        surface: Surface(h[SURFACE]),
         poc,
         lsb,
         msb,
@@ -105,25 +197,30 @@ pub(crate) fn now_in(h: &[u32; HEAD]) -> Now
     ensures { λ r. ⌜ r ≡ nowAt (now (h .entry)) ⌝ }
 {
     let c = current_in(h);
-    if flag_of(h[12]) {
-        Now::Is(c)
-    } else {
-        Now::Idle
-    }
+    if is_busy(h) { Now::Is(c) } else { Now::Idle }
 }
 
 // The sizes of the current picture's sets.
 pub(crate) fn refs_in(h: &[u32; HEAD]) -> Refs
     ensures { λ r. ⌜ r ≡ refsAt (now (h .entry)) ⌝ }
 {
-    let before = low8(h[20]);
-    let after = low8(h[21]);
-    let long = low8(h[22]);
+    let before = low8(h[BEFORE]);
+    let after = low8(h[AFTER]);
+    let long = low8(h[LONG]);
     Refs {
         before,
         after,
         long,
     }
+}
+
+// The words of a session that has heard nothing.
+pub(crate) fn put_fresh(h: &mut [u32; HEAD])
+    ensures front { λ _. ⌜ frontIn (now (h .exit)) ≡ frontOf freshSession ⌝ }
+    ensures words { λ _. ⌜ now (h .exit) ≡ headOf freshSession ⌝ }
+{
+    *h = [0; HEAD];
+    h[FIRST] = 1;
 }
 
 // No picture is current, and this is the previous Tid0 picture.
@@ -132,27 +229,27 @@ pub(crate) fn put_idle(h: &mut [u32; HEAD], q: Prev)
     ensures words { λ _. ⌜ ((f : Front) → now (h .entry) ≡ headWords f → now (h .exit) ≡ headWords (idleFront f q)) ⌝ }
 {
     count_head(*h);
-    h[12] = 0;
-    h[13] = 0;
-    h[14] = 0;
-    h[15] = 0;
-    h[16] = 0;
-    h[17] = 0;
-    h[18] = 0;
-    h[19] = 0;
-    h[20] = 0;
-    h[21] = 0;
-    h[22] = 0;
+    h[CURRENT] = 0;
+    h[SERIAL] = 0;
+    h[SURFACE] = 0;
+    h[POC] = 0;
+    h[LSB] = 0;
+    h[MSB] = 0;
+    h[OUTPUT] = 0;
+    h[VALID] = 0;
+    h[BEFORE] = 0;
+    h[AFTER] = 0;
+    h[LONG] = 0;
     match q {
         Prev::Nothing => {
-            h[9] = 0;
-            h[10] = 0;
-            h[11] = 0;
+            h[PREV] = 0;
+            h[PREV_LSB] = 0;
+            h[PREV_MSB] = 0;
         }
         Prev::Tid0 { lsb, msb } => {
-            h[9] = 1;
-            h[10] = lsb as u32;
-            h[11] = wire::bits(msb);
+            h[PREV] = 1;
+            h[PREV_LSB] = lsb as u32;
+            h[PREV_MSB] = wire::bits(msb);
         }
     }
 }
@@ -163,12 +260,12 @@ pub(crate) fn put_limits(h: &mut [u32; HEAD], l: Limits)
     ensures words { λ _. ⌜ ((f : Front) → now (h .entry) ≡ headWords f → now (h .exit) ≡ headWords (configuredFront f l)) ⌝ }
 {
     count_head(*h);
-    h[0] = 1;
-    h[4] = l.k as u32;
-    h[5] = l.capacity as u32;
-    h[6] = l.buffering as u32;
-    h[7] = l.reorder as u32;
-    h[8] = l.latency as u32;
+    h[CONFIGURED] = 1;
+    h[K] = l.k as u32;
+    h[CAPACITY] = l.capacity as u32;
+    h[BUFFERING] = l.buffering as u32;
+    h[REORDER] = l.reorder as u32;
+    h[LATENCY] = l.latency as u32;
 }
 
 // A picture is current, with the sizes of its sets; the next begin is neither first nor after end of sequence, and has the next serial.
@@ -179,20 +276,20 @@ pub(crate) fn put_begun(h: &mut [u32; HEAD], c: Current, x: Refs, next: u32)
     count_head(*h);
     let serial = c.serial;
     let surface = c.surface;
-    h[1] = 0;
-    h[2] = 0;
-    h[3] = next;
-    h[12] = 1;
-    h[13] = serial.0;
-    h[14] = surface.0;
-    h[15] = wire::bits(c.poc);
-    h[16] = c.lsb as u32;
-    h[17] = wire::bits(c.msb);
-    h[18] = flag_word(c.output);
-    h[19] = flag_word(c.valid);
-    h[20] = x.before as u32;
-    h[21] = x.after as u32;
-    h[22] = x.long as u32;
+    h[FIRST] = 0;
+    h[ENDED] = 0;
+    h[NEXT] = next;
+    h[CURRENT] = 1;
+    h[SERIAL] = serial.0;
+    h[SURFACE] = surface.0;
+    h[POC] = wire::bits(c.poc);
+    h[LSB] = c.lsb as u32;
+    h[MSB] = wire::bits(c.msb);
+    h[OUTPUT] = flag_word(c.output);
+    h[VALID] = flag_word(c.valid);
+    h[BEFORE] = x.before as u32;
+    h[AFTER] = x.after as u32;
+    h[LONG] = x.long as u32;
 }
 
 // The next begin is first after end of sequence.
@@ -201,5 +298,5 @@ pub(crate) fn put_ended(h: &mut [u32; HEAD])
     ensures words { λ _. ⌜ ((f : Front) → now (h .entry) ≡ headWords f → now (h .exit) ≡ headWords (endedFront f)) ⌝ }
 {
     count_head(*h);
-    h[2] = 1;
+    h[ENDED] = 1;
 }

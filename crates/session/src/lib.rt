@@ -16,8 +16,7 @@ ghost use Rattle.session.specs.Laid.{NormalMemory};
 ghost use Rattle.session.specs.Said.{Permitted};
 use store::Store;
 
-// The words of a session beside its store and its sets: 0 configured, 1 start, 2 ended, 3 next serial, 4 to 8 limits, 9 to 11 the previous Tid0 picture, 12 to
-// 19 the current picture, 20 to 22 the sizes of its sets StCurrBefore, StCurrAfter and LtCurr, whose members lie one behind the other in a run of their own.
+// How many words a session has beside its store and its sets; heads.rt says what each of them is.
 pub const HEAD: usize = 23;
 
 // "The call answers the refusal number, 0 when accepted, and the reply's length in bytes."
@@ -77,8 +76,7 @@ pub fn fresh(
     ensures blank { λ _. ⌜ now (sets .exit) ≡ replicate 16 0 ⌝ }
 {
     let store = Store::empty();
-    *head = [0; HEAD];
-    head[1] = 1;
+    heads::put_fresh(head);
     *sets = [0; Store::CAPACITY];
     let words = store.words;
     *places = words;

@@ -72,7 +72,7 @@ fn active_ok(a: Ask) -> bool
     ensures { λ r. ⌜ r ≡ cond (a .uses) (leb 1 (a .active) && leb (a .active) 16) (eqb (a .active) 0 && not (a .modify)) ⌝ }
 {
     if a.uses {
-        return (1 <= a.active) & (a.active <= 16);
+        return (1 <= a.active) & (a.active as usize <= Store::CAPACITY);
     }
     (a.active == 0) & !a.modify
 }

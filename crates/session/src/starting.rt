@@ -84,13 +84,13 @@ fn prev_for(over: bool, q: Prev) -> Prev
 }
 
 // The picture that is current now.
-fn current_of(next: u32, h: Head, t: Start) -> Current
-    ensures { λ r. ⌜ r ≡ currentFrom next h t ⌝ }
+fn current_of(next: Serial, h: Head, t: Start) -> Current
+    ensures { λ r. ⌜ r ≡ currentFrom (next .0) h t ⌝ }
 {
     let surface = h.surface;
     let f = t.flags;
     Current {
-        serial: Serial(next),
+        serial: next,
         surface,
         poc: t.poc,
         lsb: h.lsb,
@@ -108,14 +108,14 @@ fn next_after(n: u32) -> u32
 }
 
 // What the reply says of the picture, but for its sets.
-fn told_of(next: u32, t: Start) -> Told
-    ensures { λ r. ⌜ r ≡ toldFrom next t ⌝ }
+fn told_of(next: Serial, t: Start) -> Told
+    ensures { λ r. ⌜ r ≡ toldFrom (next .0) t ⌝ }
 {
     let f = t.flags;
     Told {
         poc: t.poc,
         flags: flags_byte(f),
-        serial: Serial(next),
+        serial: next,
     }
 }
 
@@ -153,9 +153,9 @@ fn tell_begun(
 {
     let l = heads::limits_in(head);
     let f = t.flags;
-    let starts = f.over & !heads::flag_of(head[2]);
+    let starts = f.over & !heads::is_ended(head);
     let c = store::update_dpb_before_decoding(places, starts, f.prior, l);
-    let told = told_of(head[3], t);
+    let told = told_of(heads::next_serial(head), t);
     writing::put_begun(reply, told, x, us, vs, c)
 }
 
@@ -184,8 +184,8 @@ fn begun(
     let x = store::derive_and_mark_rps(places, l.k, over, pocs, hows, neg, pos, lt, run, &mut vs);
     count_run(*run);
     let a = tell_begun(head, run, &vs, places, t, x, reply);
-    let next = head[3];
-    heads::put_begun(head, current_of(next, h, t), refs_of(x), next_after(next));
+    let next = heads::next_serial(head);
+    heads::put_begun(head, current_of(next, h, t), refs_of(x), next_after(next.0));
     a
 }
 
@@ -225,7 +225,7 @@ fn begin_inside(
     let h = reading::head_of(msg);
     let l = heads::limits_in(head);
     let q = heads::prev_in(head);
-    let flags = flags_of(heads::flag_of(head[1]), heads::flag_of(head[2]), h);
+    let flags = flags_of(heads::is_first(head), heads::is_ended(head), h);
     match order::derive_poc(l.k, prev_for(flags.over, q), h.lsb) {
         Poc::Outside => writing::refuse(reply, 258, Refusal::Outside),
         Poc::Val { msb, poc } => {
@@ -247,16 +247,16 @@ pub(crate) fn begin(
     ensures { λ r. ⌜ Does (memory (now (head .entry)) (now (run .entry)) (now (places .entry))) (beginOf (sessionIn (memory (now (head .entry)) (now (run .entry)) (now (places .entry)))) (fieldsOf (now (msg .entry)))) (now (reply .entry)) r (memory (now (head .exit)) (now (run .exit)) (now (places .exit))) (now (reply .exit)) ⌝ }
 {
     let l = heads::limits_in(head);
-    if !heads::flag_of(head[0]) {
+    if !heads::is_configured(head) {
         return writing::refuse(reply, 258, Refusal::Unconfigured);
     }
-    if heads::flag_of(head[12]) {
+    if heads::is_busy(head) {
         return writing::refuse(reply, 258, Refusal::Busy);
     }
     if !reading::begin_ranges(msg, l.k) {
         return writing::refuse(reply, 258, Refusal::OutOfRange);
     }
-    if head[3] == Store::MISSING {
+    if heads::next_serial(head).0 == Store::MISSING {
         return writing::refuse(reply, 258, Refusal::SerialsSpent);
     }
     if store::holds_surface(places, reading::surface_of(msg)) {

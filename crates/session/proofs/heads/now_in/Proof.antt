@@ -7,19 +7,14 @@ use Rattle.session.proofs.heads.now_in.Tie as tie
 current-in-requires : tie.Need-current-in-requires
 current-in-requires c κs = search needs
 
-element-copy-out-flag-of : tie.Need-element-copy-out-flag-of
-element-copy-out-flag-of c = search needs
-
-flag-of-requires : tie.Need-flag-of-requires
-flag-of-requires c κs = search needs
+is-busy-requires : tie.Need-is-busy-requires
+is-busy-requires c κs = search needs
 
 returns : tie.Need-returns
-returns c = rw (sym (c .before .flag-of .ensures) ∙ c .if1 .taken, c .before .before .before .current-in .ensures)
+returns c = rw (sym (c .before .is-busy .ensures) ∙ c .if1 .taken, c .before .before .current-in .ensures)
 
 returns-2 : tie.Need-returns-2
-returns-2 c = rw (sym (c .before .flag-of .ensures) ∙ c .if1 .left)
+returns-2 c = rw (sym (c .before .is-busy .ensures) ∙ c .if1 .left)
 
 pub now-in-spec : {M : Type 1} → statement M
-now-in-spec =
-    tie.close
-    (tie.spec current-in-requires element-copy-out-flag-of flag-of-requires returns returns-2)
+now-in-spec = tie.close (tie.spec current-in-requires is-busy-requires returns returns-2)

@@ -20,7 +20,7 @@ unfolding frontIn
 counted c =
     record {
       head = c .before .before .before .before .before .before .before .before .before .before .before .head-of .ensures;
-      flags = c .before .before .flags-of .ensures ∙ (λ i. flagsFrom (c .before .before .before .before .before .flag-of .ensures i) (c .before .before .before .flag-of2 .ensures i) (c .before .before .before .before .before .before .before .before .before .before .before .head-of .result));
+      flags = c .before .before .flags-of .ensures ∙ (λ i. flagsFrom (c .before .before .before .before .before .is-first .ensures i) (c .before .before .before .is-ended .ensures i) (c .before .before .before .before .before .before .before .before .before .before .before .head-of .result));
       poc = c .derive-poc .ensures ∙ (λ i. pocAnswer (modulus (c .before .before .before .before .before .before .before .before .before .limits-in .ensures i)) ((c .before .prev-for .ensures ∙ ap (prevFrom (c .before .before .flags-of .result .over)) (c .before .before .before .before .before .before .before .prev-in .ensures)) i) (c .before .before .before .before .before .before .before .before .before .before .before .head-of .result .lsb));
     }
 
@@ -33,17 +33,11 @@ limits-in-requires c κs = search needs
 prev-in-requires : tie.Need-prev-in-requires
 prev-in-requires c κs = search needs
 
-element-copy-out-flag-of : tie.Need-element-copy-out-flag-of
-element-copy-out-flag-of c = search needs
+is-first-requires : tie.Need-is-first-requires
+is-first-requires c κs = search needs
 
-flag-of-requires : tie.Need-flag-of-requires
-flag-of-requires c κs = search needs
-
-element-copy-out-flag-of-2 : tie.Need-element-copy-out-flag-of-2
-element-copy-out-flag-of-2 c = search needs
-
-flag-of-requires-2 : tie.Need-flag-of-requires-2
-flag-of-requires-2 c κs = search needs
+is-ended-requires : tie.Need-is-ended-requires
+is-ended-requires c κs = search needs
 
 flags-of-requires : tie.Need-flags-of-requires
 flags-of-requires c κs = search needs
@@ -85,10 +79,8 @@ begin-inside-spec =
     head-of-requires
     limits-in-requires
     prev-in-requires
-    element-copy-out-flag-of
-    flag-of-requires
-    element-copy-out-flag-of-2
-    flag-of-requires-2
+    is-first-requires
+    is-ended-requires
     flags-of-requires
     prev-for-requires
     derive-poc-requires

@@ -1,4 +1,10 @@
 -- The marks and the sets are the paper's, and so are the room that is made for the picture, the reply and the words beside the store.
+use Prim.Native.Nat.{_+_}
+use mathlib.Core.Bool.{cond}
+use mathlib.Core.Path.{ap, _∙_}
+use lib.Dec.{eqb}
+use Rattle.paper.specs.declared.Serial.{Serial}
+use Rattle.session.specs.Starts.{currentFrom}
 use Rattle.session.proofs.Begins.{few-members, begun-does}
 use Rattle.session.specs.View.{memory}
 use denote.Ref.{now}
@@ -27,14 +33,14 @@ count-run-requires c κs = search needs
 tell-begun-requires : tie.Need-tell-begun-requires
 tell-begun-requires c κs = (few-members (c .before .before .before .before .before .before .before .derive-and-mark-rps .ensures .sets), c .before .before .before .before .before .before .before .before .before .before .before .before .before .before .before .before .before .before .before .pre .1)
 
-element-copy-out-next : tie.Need-element-copy-out-next
-element-copy-out-next c = search needs
+next-serial-requires : tie.Need-next-serial-requires
+next-serial-requires c κs = search needs
 
 current-of-requires : tie.Need-current-of-requires
 current-of-requires c κs = search needs
 
 refs-of-requires : tie.Need-refs-of-requires
-refs-of-requires c κs = few-members (c .before .before .before .before .before .before .before .before .before .before .before .before .before .derive-and-mark-rps .ensures .sets)
+refs-of-requires c κs = few-members (c .before .before .before .before .before .before .before .before .before .before .before .before .before .before .derive-and-mark-rps .ensures .sets)
 
 next-after-requires : tie.Need-next-after-requires
 next-after-requires c κs = search needs
@@ -47,10 +53,13 @@ same-length c = search needs
 
 returns : tie.Need-returns
 returns c =
-    let s = c .before .before .before .before .before .before .before .before .before .before .before .before .before .before .before .before .before .before .before .before .before .before .before .before .before .before .before .before in
+    let s = c .before .before .before .before .before .before .before .before .before .before .before .before .before .before .before .before .before .before .before .before .before .before .before .before .before .before .before .before .before in
     let a = s .args in
-    begun-does (memory (now (a .head)) (now (a .run)) (now (a .places))) (now (a .msg)) (a .h) (a .t) (now (a .pocs)) (now (a .hows)) (s .pre .0) (c .before .before .before .before .before .before .before .before .before .before .before .before .before .before .before .before .before .before .before .before .before .before .before .before .limits-in .ensures)
-    (c .before .before .before .before .before .before .before .before .before .before .before .before .before .before .before .before .derive-and-mark-rps .ensures) (c .before .before .before .before .before .before .before .before .tell-begun .ensures) (c .before .before .before .before .before .before .before .before .before .before .before .before .before .before .count-run .ensures .1) (c .put-begun .ensures .0) (c .put-begun .ensures .1) (c .before .before .before .current-of .ensures) (c .before .before .refs-of .ensures) (c .before .next-after .ensures)
+    let e = c .before .before .before .before .before .next-serial .ensures in
+    begun-does (memory (now (a .head)) (now (a .run)) (now (a .places))) (now (a .msg)) (a .h) (a .t) (now (a .pocs)) (now (a .hows)) (s .pre .0) (c .before .before .before .before .before .before .before .before .before .before .before .before .before .before .before .before .before .before .before .before .before .before .before .before .before .limits-in .ensures)
+    (c .before .before .before .before .before .before .before .before .before .before .before .before .before .before .before .before .before .derive-and-mark-rps .ensures) (c .before .before .before .before .before .before .before .before .before .tell-begun .ensures) (c .before .before .before .before .before .before .before .before .before .before .before .before .before .before .before .count-run .ensures .1) (c .put-begun .ensures .0) (c .put-begun .ensures .1)
+    (c .before .before .before .current-of .ensures ∙ ap (λ (n : Serial). currentFrom (n .0) (a .h) (a .t)) e) (c .before .before .refs-of .ensures)
+    (c .before .next-after .ensures ∙ ap (λ (n : Serial). cond (eqb (n .0) 4294967295) 0 (n .0 + 1)) e)
 
 pub begun-spec : {M : Type 1} → statement M
 begun-spec =
@@ -63,7 +72,7 @@ begun-spec =
     derive-and-mark-rps-requires
     count-run-requires
     tell-begun-requires
-    element-copy-out-next
+    next-serial-requires
     current-of-requires
     refs-of-requires
     next-after-requires

@@ -2,7 +2,6 @@
 use mir.Syntax.{w32}
 use mir.Val.{SFits}
 use mir.Facts.{toZ-ofZ}
-use Rattle.paper.specs.Numbers.{aSerial}
 use borrow.Author.Needs.{needs}
 use Rattle.session.proofs.starting.told_of.Statement.{statement}
 use Rattle.session.proofs.starting.told_of.Tie as tie
@@ -14,7 +13,7 @@ returns : tie.Need-returns
 returns c =
     let s = c .before .before .before in
     let f : SFits w32 (s .args .t .poc) = search needs in
-    λ i. record { poc = toZ-ofZ f i; flags = c .before .flags-byte .ensures i; serial = aSerial (s .args .next) }
+    λ i. record { poc = toZ-ofZ f i; flags = c .before .flags-byte .ensures i; serial = s .args .next }
 
 pub told-of-spec : {M : Type 1} → statement M
 told-of-spec = tie.close (tie.spec flags-byte-requires returns)
