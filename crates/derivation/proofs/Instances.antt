@@ -1,19 +1,22 @@
--- The paper's two lists are the one list that the code builds, since they differ in candidates and last place alone.
-use mathlib.Core.Path.{_≡_, refl}
+-- The paper's two lists are the one list that the code builds, since they differ in candidates and last place alone; a list and a run leave no choice.
+use mathlib.Core.Path.{_≡_, refl, sym, ap, _∙_}
 use mathlib.Core.List.{List}
 use Prim.Native.Nat.{ℕ, _<_, _≤_}
 use lib.Dec.{leb}
 use Rattle.paper.specs.Words.{anyB}
 use Rattle.derivation.specs.declared.rows.RefList.{RefList}
 use Rattle.derivation.proofs.Pad.{one-array}
-use Rattle.derivation.proofs.Runs.{count-is}
+use Rattle.derivation.proofs.Runs.{count-is, table-get}
 use mathlib.Core.Bool.{Bool, true, false}
-use lib.ListN.{length}
+use lib.ListN.{length, getD}
+use lib.Seq.{ext-getD}
+use borrow.Author.Tests.{leb-true, leb-false}
+use Rattle.paper.proofs.Bools.{split}
 use Rattle.paper.specs.declared.Serial.{Serial}
 use Rattle.paper.specs.State as State
 use Rattle.paper.specs.Records.{Slice}
 use Rattle.paper.specs.RefLists.{list0, list1, lastIsOwn, candidates0, candidates1}
-use Rattle.derivation.specs.Lists.{listOf, candidatesOf, refsIn, CandidateCount, Ready, HoldsList}
+use Rattle.derivation.specs.Lists.{blankSerial, serialAt, serialsIn, listOf, candidatesOf, refsIn, CandidateCount, Ready, HoldsList}
 
 module _ (x : State.Refs) (c : Serial) (f : Slice) where
   pub list0-is : f .ask0 .uses ≡ true → list0 x c f ≡ listOf x c (f .own) false (lastIsOwn f (candidates0 x (f .own) c)) (f .ask0 .active) (f .ask0 .modify) (f .ask0 .entries)
@@ -50,6 +53,17 @@ ready second c active modify es k some least most bytes below =
       bytes = bytes;
       below = λ t. rw (← e) (below t);
     }
+
+-- a run of sixteen words is told by its first members and the words behind them
+pub one-run : (n : ℕ) (us vs : List ℕ) → length us ≡ 16 → length vs ≡ 16 → serialsIn us n ≡ serialsIn vs n → ((i : ℕ) → n ≤ i → getD us i 0 ≡ getD vs i 0) → us ≡ vs
+one-run n us vs lu lv e behind =
+    ext-getD 0 us vs (lu ∙ sym lv)
+    (λ i l.
+    split (leb n i)
+    (λ q. behind i (leb-true n i q))
+    (λ q.
+    let lt : i < n = leb-false n i q in
+    ap (λ (s : Serial). s .0) (sym (table-get (serialAt us) n i blankSerial lt) ∙ ap (λ (xs : List Serial). getD xs i blankSerial) e ∙ table-get (serialAt vs) n i blankSerial lt)))
 
 -- a list in an array leaves no choice
 pub one-list : (l r : RefList) (xs : List Serial) → HoldsList l xs → HoldsList r xs → l ≡ r

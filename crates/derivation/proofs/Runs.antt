@@ -8,19 +8,21 @@ use native.Mathlib.Nat.{le-of-suc-le-suc, not-suc-le-zero, mod-lt}
 use native.Mathlib.Omega.{arith}
 use native.Mathlib.Numerals.{add-one}
 use lib.Dec.{ltb, leb}
-use borrow.Author.Tests.{ltb-true, ltb-false, leb-false}
+use borrow.Author.Tests.{ltb-true, ltb-false, leb-true, leb-false}
 use lib.ListN.{length, getD, take, drop, set, replicate, length-append, length-take, length-drop, length-map, take-append-drop, List·getD-append, List·getD-eq-default, List·getD-map}
-use lib.Seq.{take-add, take-at, drop-at, take-suc, take-length, getD-take, getD-append-add}
+use lib.Seq.{take-add, take-at, drop-at, take-suc, take-length, getD-take, getD-at, getD-append-add}
 use Rattle.paper.specs.declared.Serial.{Serial}
 use Rattle.paper.specs.Words.{table, anyB}
 use Rattle.paper.specs.Numbers.{missing, aSerial}
 use Rattle.paper.specs.State as State
 use Rattle.paper.specs.RefLists.{ownOf, candidates0, candidates1, placed}
+use Rattle.paper.proofs.Bools.{split}
+use Rattle.paper.proofs.Fits.{table-length}
 use Rattle.paper.proofs.Places.{at-cons, at-end}
 use Rattle.derivation.specs.declared.rows.Refs.{Refs}
 use Rattle.derivation.specs.declared.rows.RefList.{RefList}
 use Rattle.derivation.specs.Pad.{Padded}
-use Rattle.derivation.specs.Lists.{refsIn, blankSerial, HoldsList, candidatesOf, swappedAt, placeIn, askOf, CandidateCount}
+use Rattle.derivation.specs.Lists.{refsIn, blankSerial, serialAt, serialsIn, HoldsList, candidatesOf, swappedAt, placeIn, askOf, CandidateCount}
 use Rattle.derivation.proofs.Pad.{is-push, is-set}
 
 -- ---- how long each set is
@@ -110,7 +112,7 @@ module _ (xs : List ℕ) (r : Refs) (own : Bool) (c : Serial) where
   run-get : (i : ℕ) → getD (candidatesOf (refsIn xs r) own false c) i c ≡ getD (map aSerial front) i c
   run-get i = rw run-is (own-get (map aSerial front) own c i)
 
-  run-inside : (i : ℕ) → i < length xs → i < r .before + r .after + r .long → aSerial (getD xs i 0) ≡ getD (candidatesOf (refsIn xs r) own false c) i c
+  run-inside : (i : ℕ) → i < length xs → i < r .before + r .after + r .long → serialAt xs i ≡ getD (candidatesOf (refsIn xs r) own false c) i c
   run-inside i h k =
       let n : i < length (map aSerial front) = simp (length-map, length-take) (omega arith) in
       sym (run-get i ∙ any-default (map aSerial front) i c (aSerial 0) n ∙ List·getD-map aSerial front i 0 ∙ ap aSerial (getD-take (r .before + r .after + r .long) xs i 0 k))
@@ -131,17 +133,31 @@ module _ (xs : List ℕ) (r : Refs) (own second : Bool) (c : Serial) (i at : ℕ
   there : getD (candidatesOf (refsIn xs r) own false c) at c ≡ getD (candidatesOf (refsIn xs r) own second c) i c
   there = rw e (either-get (refsIn xs r) own c second (min (r .before) 16) (min (r .after) (16 - r .before)) i (before-length xs r h) (after-length xs r h))
 
-  pub stands-inside : at < min (r .before + r .after + r .long) 16 → aSerial (getD xs at 0) ≡ getD (candidatesOf (refsIn xs r) own second c) i c
+  pub stands-inside : at < min (r .before + r .after + r .long) 16 → serialAt xs at ≡ getD (candidatesOf (refsIn xs r) own second c) i c
   stands-inside lt = run-inside xs r own c at (omega arith) (omega arith) ∙ there
 
   pub stands-past : min (r .before + r .after + r .long) 16 ≤ at → c ≡ getD (candidatesOf (refsIn xs r) own second c) i c
   stands-past le = run-past xs r own c at (rw h le) ∙ there
 
 -- ---- places: a table of candidates, at a remainder or at an entry byte
-table-ext : {A : Type 0} (n : ℕ) (f g : ℕ → A) → ((j : ℕ) → f j ≡ g j) → table f n ≡ table g n
+pub table-same : {A : Type 0} (f g : ℕ → A) (n : ℕ) → ((i : ℕ) → i < n → f i ≡ g i) → table f n ≡ table g n
 unfolding table
-table-ext zero f g e = refl
-table-ext (suc n) f g e = ap₂ (λ (l : List _) (x : _). l ++ (x ∷ [])) (table-ext n f g e) (e n)
+table-same f g zero h = refl
+table-same f g (suc n) h = ap₂ (λ (a : List _) (b : _). a ++ (b ∷ [])) (table-same f g n (λ i l. h i (omega arith))) (h n (omega arith))
+
+pub table-get : {A : Type 0} (f : ℕ → A) (n i : ℕ) (d : A) → i < n → getD (table f n) i d ≡ f i
+unfolding table
+table-get f zero i d lt = absurd (omega arith)
+table-get f (suc n) i d lt =
+    let l = table-length f n in
+    split (leb n i)
+    (λ e.
+    let le : n ≤ i = leb-true n i e in
+    let x : i ≡ n = omega arith in
+    rw x (getD-at (table f n) (f n) [] d n l))
+    (λ e.
+    let x : i < n = leb-false n i e in
+    List·getD-append (table f n) (f n ∷ []) d i (omega arith) ∙ table-get f n i d x)
 
 -- the first elements of a list, each through g, one by one
 pub table-front : {A B : Type 0} (g : A → B) (d : A) (l : List A) (n : ℕ) → n ≤ length l → table (λ (j : ℕ). g (getD l j d)) n ≡ map g (take n l)
@@ -171,8 +187,8 @@ pub placed-is : (cs : List Serial) (c : Serial) (modify : Bool) (es : List ℕ) 
     → (modify ≡ true → length es ≡ active) → (modify ≡ true → anyB (λ (i : ℕ). leb (length cs) i) es ≡ false)
     → table (placeOf cs c modify es n) active ≡ placed cs (askOf active modify es)
 placed-is cs c false es n active e h bytes below =
-    table-ext active (placeOf cs c false es n) (λ (j : ℕ). getD cs (j % length cs) missing)
-    (λ j. let k : j % n < length cs = subst (λ (m : ℕ). j % n < m) e (mod-lt j h) in any-default cs (j % n) c missing k ∙ ap (λ (m : ℕ). getD cs (j % m) missing) e)
+    table-same (placeOf cs c false es n) (λ (j : ℕ). getD cs (j % length cs) missing) active
+    (λ j l. let k : j % n < length cs = subst (λ (m : ℕ). j % n < m) e (mod-lt j h) in any-default cs (j % n) c missing k ∙ ap (λ (m : ℕ). getD cs (j % m) missing) e)
 placed-is cs c true es n active e h bytes below =
     rw (← bytes refl)
     (table-front (λ (i : ℕ). getD cs i c) 0 es (length es) (omega arith)
@@ -233,7 +249,7 @@ parts-are ys b a l rest m n k e eb ea el =
     rw (e, eb, ea, el, take-at b (a ++ (l ++ rest)) (length b) refl, drop-at b (a ++ (l ++ rest)) (length b) refl, take-at a (l ++ rest) (length a) refl)
     (rw (s, drop-at (b ++ a) (l ++ rest) (length b + length a) (length-append b a), take-at l rest (length l) refl))
 
-pub refs-are : (xs : List ℕ) (r : Refs) (b a l : List Serial) → r .before + r .after + r .long ≤ length xs → table (λ (i : ℕ). aSerial (getD xs i 0)) (r .before + r .after + r .long) ≡ b ++ (a ++ l)
+pub refs-are : (xs : List ℕ) (r : Refs) (b a l : List Serial) → r .before + r .after + r .long ≤ length xs → serialsIn xs (r .before + r .after + r .long) ≡ b ++ (a ++ l)
     → r .before ≡ length b → r .after ≡ length a → r .long ≡ length l → refsIn xs r ≡ record { before = b; after = a; ltCurr = l }
 unfolding refsIn
 refs-are xs r b a l h e eb ea el =

@@ -1,6 +1,6 @@
 -- The class of a NAL type, by the paper's predicates, and what each class says.
-use Prim.Native.Nat.{ℕ}
-use mathlib.Core.List.{List, [], _∷_}
+use Prim.Native.Nat.{ℕ, zero, suc, _-_}
+use mathlib.Core.List.{List, [], _∷_, _++_}
 use mathlib.Core.Bool.{Bool, true, false, cond, not}
 use Rattle.paper.specs.Nal.{idr, bla, cra, radl, rasl, taken}
 use Rattle.derivation.specs.declared.nal.NalClass.{NalClass}
@@ -16,7 +16,15 @@ classOf t =
     (cond (taken t) Other
     Refused)))))
 
--- the paper's numbers of each class
+-- the numbers from a to b: so many from a on
+abbrev pub countedFrom : ℕ → ℕ → List ℕ
+countedFrom a zero = []
+countedFrom a (suc n) = a ∷ countedFrom (suc a) n
+
+abbrev pub fromTo : ℕ → ℕ → List ℕ
+fromTo a b = countedFrom a (suc b - a)
+
+-- the paper's numbers of each class, and of `Refused` those numbers of a byte that are not taken
 unfoldable pub typesOf : NalClass → List ℕ
 typesOf Idr = 19 ∷ 20 ∷ []
 typesOf Bla = 16 ∷ 17 ∷ 18 ∷ []
@@ -24,7 +32,7 @@ typesOf Cra = 21 ∷ []
 typesOf Radl = 6 ∷ 7 ∷ []
 typesOf Rasl = 8 ∷ 9 ∷ []
 typesOf Other = 0 ∷ 1 ∷ 2 ∷ 3 ∷ 4 ∷ 5 ∷ []
-typesOf Refused = []
+typesOf Refused = fromTo 10 15 ++ fromTo 22 255
 
 abbrev pub takenIn : NalClass → Bool
 takenIn Idr = true

@@ -6,7 +6,7 @@ use mathlib.Core.Bool.{Bool, true, false, cond}
 use lib.ListN.{length, take, drop, getD, set, replicate}
 use lib.Dec.{ltb, leb}
 use Rattle.paper.specs.declared.Serial.{Serial}
-use Rattle.paper.specs.Words.{anyB}
+use Rattle.paper.specs.Words.{anyB, table}
 use Rattle.paper.specs.Numbers.{aSerial}
 use Rattle.paper.specs.State as State
 use Rattle.paper.specs.Records.{ListAsk}
@@ -17,6 +17,20 @@ use Rattle.derivation.specs.declared.rows.RefList.{RefList}
 
 abbrev pub blankSerial : Serial
 blankSerial = record { 0 = 0 }
+
+-- the serials in the first n of lent words
+abbrev pub serialAt : List ℕ → ℕ → Serial
+serialAt xs i = aSerial (getD xs i 0)
+
+abbrev pub serialsIn : List ℕ → ℕ → List Serial
+serialsIn xs n = table (serialAt xs) n
+
+-- the first n of serials in places
+abbrev pub memberAt : List Serial → ℕ → Serial
+memberAt xs i = getD xs i blankSerial
+
+abbrev pub membersOf : List Serial → ℕ → List Serial
+membersOf xs n = table (memberAt xs) n
 
 -- one run: Before, After, LtCurr one behind the other; a count past the end of the run counts what is there
 unfoldable pub refsIn : List ℕ → Refs → State.Refs

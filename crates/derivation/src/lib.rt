@@ -5,4 +5,9 @@ pub mod nal;
 pub mod order;
 pub mod ranges;
 pub mod rows;
+pub mod run;
 pub mod wishing;
+
+// The greatest capacity of a store, and so the most entries of a begin, members of the sets and
+// places of a list. Written here, below all that use it; `Store::CAPACITY` is its name above.
+pub const CAPACITY: usize = 16;

@@ -1,9 +1,12 @@
 // NAL types (Table 7-1), and the flags of a picture that its type decides (8.1.3, C.5.2.2, 8.3.1).
 ghost use mathlib.Core.Path.{_≡_};
 ghost use mathlib.Core.Bool.{true, false};
+ghost use lib.Dec.{eqb};
+ghost use Rattle.paper.specs.Words.{anyB};
 ghost use Rattle.paper.specs.Nal.{irap, idr, taken, subLayerNonReference};
 ghost use Rattle.paper.specs.Flags.{noRaslOutput, picOutput, noPriorOutput, validPrev};
-ghost use Rattle.derivation.specs.Classes.{classOf, irapIn, idrIn, takenIn, craIn, raslIn, noRaslIn, prevIn};
+ghost use Rattle.derivation.specs.Classes.{classOf, typesOf, irapIn, idrIn, takenIn, craIn, raslIn, noRaslIn, prevIn};
+ghost use Rattle.derivation.specs.declared.nal.NalClass.{NalClass};
 
 // The class of a NAL type; `Refused` is a type that is not taken.
 pub enum NalClass {
@@ -18,7 +21,9 @@ pub enum NalClass {
 
 // The class of a type: "Types 0 to 9 and 16 to 21 are taken" (Table 7-1).
 pub fn nal_class(t: u8) -> NalClass
-    ensures { λ r. ⌜ r ≡ classOf t ⌝ }
+    ensures class { λ r. ⌜ r ≡ classOf t ⌝ }
+    ensures types { λ r. ⌜ anyB (eqb t) (typesOf r) ≡ true ⌝ }
+    ensures only { λ r. ⌜ ((c : NalClass) → anyB (eqb t) (typesOf c) ≡ true → c ≡ r) ⌝ }
 {
     match t {
         0..=5 => NalClass::Other,

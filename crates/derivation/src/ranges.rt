@@ -1,4 +1,5 @@
 // "Ranges", and the ranges of number 2.
+use crate::CAPACITY;
 use crate::flag_bytes;
 use crate::modular;
 use crate::nal;
@@ -19,8 +20,8 @@ ghost use Rattle.derivation.specs.Heads.{headRanges};
 pub fn taken_limits(l: Limits) -> Limits
     ensures { λ r. ⌜ r ≡ taken16 l ⌝ }
 {
-    let k = modular::at_most_16(l.k);
-    let capacity = modular::at_most_16(l.capacity);
+    let k = modular::taken_bits(l.k);
+    let capacity = modular::taken_capacity(l.capacity);
     Limits {
         k,
         capacity,
@@ -34,9 +35,9 @@ pub fn taken_limits(l: Limits) -> Limits
 pub fn configure_ranges(l: Limits) -> bool
     ensures { λ r. ⌜ r ≡ configureRanges l ⌝ }
 {
-    let most = modular::at_most_16(l.capacity);
+    let most = modular::taken_capacity(l.capacity);
     (4 <= l.k)
-        & (l.k <= 16)
+        & (l.k <= modular::MOST_BITS)
         & (1 <= l.capacity)
         & (1 <= l.buffering)
         & (l.buffering <= most)
@@ -55,7 +56,7 @@ pub fn head_ranges(k: u8, t: u8, tid: u8, flags: u8, lsb: u16, n: usize) -> bool
         & layer
         & flag_bytes::spare2(flags)
         & ((lsb as u32) < modular::modulus(k))
-        & (n <= 16)
+        & (n <= CAPACITY)
         & start
 }
 

@@ -1,4 +1,6 @@
 // Reference lists (8.3.4): candidates, and places of them.
+use crate::CAPACITY;
+use crate::run;
 use paper::Serial;
 ghost use mathlib.Core.Path.{_≡_};
 ghost use mathlib.Core.Bool.{true, cond, not, _&&_};
@@ -18,15 +20,8 @@ pub struct Refs {
 
 // A reference list.
 pub struct RefList {
-    pub items: [Serial; 16],
+    pub items: [Serial; CAPACITY],
     pub len: usize,
-}
-
-// How many serial numbers a run has. Its type says so of what is lent, and a proof is told it here.
-fn count_run(words: [u32; 16]) -> usize
-    ensures { λ r. ⌜ (r ≡ 16) × (length words ≡ 16) ⌝ }
-{
-    16
 }
 
 // The lesser of a count and the room that is left.
@@ -42,7 +37,7 @@ fn member_count(refs: Refs) -> usize
 {
     fewer(
         refs.before as usize + refs.after as usize + refs.long as usize,
-        16,
+        CAPACITY,
     )
 }
 
@@ -54,10 +49,10 @@ fn own_count(own: bool) -> usize
 }
 
 // How many candidates a list has: the members of the three sets, and the current picture if it is one.
-pub fn candidate_count(run: &[u32; 16], refs: Refs, own: bool) -> usize
+pub fn candidate_count(run: &[u32; CAPACITY], refs: Refs, own: bool) -> usize
     ensures { λ r. ⌜ CandidateCount (refsIn (now (run .entry)) refs) own r ⌝ }
 {
-    count_run(*run);
+    run::count_run(*run);
     member_count(refs) + own_count(own)
 }
 
@@ -72,7 +67,7 @@ fn larger(a: usize, b: usize) -> usize
 pub fn too_many(uses: bool, active: u8, n: usize) -> bool
     ensures { λ r. ⌜ r ≡ (uses && ltb 16 (max active n)) ⌝ }
 {
-    uses & (16 < larger(active as usize, n))
+    uses & (CAPACITY < larger(active as usize, n))
 }
 
 // Number 12: "an entry byte is not below the number of candidates".
@@ -115,23 +110,23 @@ fn stands(refs: Refs, second: bool, i: usize) -> usize
     ensures { λ r. ⌜ r ≡ placeIn (min (refs .before) 16) (min (refs .after) (16 - refs .before)) second i ⌝ }
 {
     if second {
-        let b = fewer(refs.before as usize, 16);
-        let a = fewer(refs.after as usize, 16 - b);
+        let b = fewer(refs.before as usize, CAPACITY);
+        let a = fewer(refs.after as usize, CAPACITY - b);
         return swapped(b, a, i);
     }
     i
 }
 
 // The candidate of list 0, or of list 1 (`second`), at a place; behind the members stands the current picture.
-fn candidate(run: &[u32; 16], refs: Refs, second: bool, c: Serial, i: usize) -> Serial
+fn candidate(run: &[u32; CAPACITY], refs: Refs, second: bool, c: Serial, i: usize) -> Serial
     ensures { λ r. ⌜ StandsAt (refsIn (now (run .entry)) refs) second c i r ⌝ }
 {
-    count_run(*run);
+    run::count_run(*run);
     let at = stands(refs, second, i);
     if member_count(refs) <= at {
         return c;
     }
-    Serial(run[at])
+    run::member(run, at)
 }
 
 // Which candidate stands at place j: "place j is candidate j mod n; with the modify bit it is the candidate at the entry byte".
@@ -150,13 +145,13 @@ pub fn no_list() -> RefList
     ensures { λ r. ⌜ r ≡ noList ⌝ }
 {
     let blank = Serial(0);
-    let items = [blank; 16];
+    let items = [blank; CAPACITY];
     RefList { items, len: 0 }
 }
 
 // The places of a list: "With n candidates, place j is candidate j mod n; with the modify bit it is the candidate at the entry byte".
 fn places(
-    run: &[u32; 16],
+    run: &[u32; CAPACITY],
     refs: Refs,
     c: Serial,
     own: bool,
@@ -170,7 +165,7 @@ fn places(
 {
     let n = candidate_count(run, refs, own);
     let blank = Serial(0);
-    let mut items = [blank; 16];
+    let mut items = [blank; CAPACITY];
     let mut j: usize = 0;
     while j < active {
         items[j] = candidate(run, refs, second, c, which(modify, entries, j, n));
@@ -181,7 +176,7 @@ fn places(
 
 // A reference list (8.3.4): list 0, or list 1 (`second`); `last`: it has the current picture in its last active place.
 pub fn build_ref_pic_list(
-    run: &[u32; 16],
+    run: &[u32; CAPACITY],
     refs: Refs,
     c: Serial,
     own: bool,

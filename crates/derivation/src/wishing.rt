@@ -6,9 +6,12 @@ use paper::LongEntry;
 use paper::ShortEntry;
 use paper::Wish;
 ghost use mathlib.Core.Path.{_≡_};
+ghost use mathlib.Core.Bool.{cond};
+ghost use mathlib.Core.List.{[], _∷_};
 ghost use Prim.Native.Nat.{_^_, min};
-ghost use Rattle.paper.specs.Sets.{shortWish, longWish, longPoc};
-ghost use Rattle.derivation.specs.Answers.{wantedOf, wishOf};
+ghost use Rattle.paper.specs.Poc.{in32};
+ghost use Rattle.paper.specs.Sets.{shortWish, longWish, longPoc, wishIn32};
+ghost use Rattle.derivation.specs.Answers.{wantedOf, wishOf, numberOfWanted, valuesOfWanted};
 
 // What an entry asks for, or that its POC lies outside i32.
 pub enum Wanted {
@@ -18,7 +21,9 @@ pub enum Wanted {
 
 // The wish for an exact POC, if an i32 holds it.
 fn wish_at(z: i64, used: bool, whole: bool) -> Wanted
-    ensures { λ r. ⌜ r ≡ wantedOf (wishOf z used whole) ⌝ }
+    ensures answer { λ r. ⌜ r ≡ wantedOf (wishOf z used whole) ⌝ }
+    ensures number { λ r. ⌜ numberOfWanted r ≡ cond (in32 z) 0 6 ⌝ }
+    ensures values { λ r. ⌜ (numberOfWanted r ≡ 0 → valuesOfWanted r ≡ wishOf z used whole ∷ []) ⌝ }
 {
     match modular::narrowed(z) {
         Narrow::Outside => Wanted::Outside,
@@ -28,7 +33,9 @@ fn wish_at(z: i64, used: bool, whole: bool) -> Wanted
 
 // What a short-term entry asks for: "Short-term POCs are POC + delta".
 pub fn short_wish(poc: i32, e: ShortEntry) -> Wanted
-    ensures { λ r. ⌜ r ≡ wantedOf (shortWish poc e) ⌝ }
+    ensures answer { λ r. ⌜ r ≡ wantedOf (shortWish poc e) ⌝ }
+    ensures number { λ r. ⌜ numberOfWanted r ≡ cond (wishIn32 (shortWish poc e)) 0 6 ⌝ }
+    ensures values { λ r. ⌜ (numberOfWanted r ≡ 0 → valuesOfWanted r ≡ shortWish poc e ∷ []) ⌝ }
 {
     let delta = e.delta;
     let used = e.used;
@@ -45,7 +52,9 @@ fn long_exact(k: u8, poc: i32, lsb: u16, cycle: u32) -> i64
 
 // What a long-term entry asks for: "lt lsb, and with msb present" the exact POC.
 pub fn long_wish(k: u8, poc: i32, e: LongEntry) -> Wanted
-    ensures { λ r. ⌜ r ≡ wantedOf (longWish (2 ^ (min k 16)) poc e) ⌝ }
+    ensures answer { λ r. ⌜ r ≡ wantedOf (longWish (2 ^ (min k 16)) poc e) ⌝ }
+    ensures number { λ r. ⌜ numberOfWanted r ≡ cond (wishIn32 (longWish (2 ^ (min k 16)) poc e)) 0 6 ⌝ }
+    ensures values { λ r. ⌜ (numberOfWanted r ≡ 0 → valuesOfWanted r ≡ longWish (2 ^ (min k 16)) poc e ∷ []) ⌝ }
 {
     let lsb = e.lsb;
     let flags = e.flags;

@@ -38,7 +38,7 @@ use Rattle.derivation.specs.declared.order.Poc.{Poc}
 use Rattle.derivation.specs.declared.order.Poc.the-variants as A
 use Rattle.derivation.specs.declared.rows.Refs.{Refs}
 use Rattle.derivation.specs.Answers.{pocAnswer}
-use Rattle.derivation.specs.Lists.{refsIn}
+use Rattle.derivation.specs.Lists.{refsIn, serialAt, serialsIn}
 use Rattle.derivation.proofs.Numbered.{poc-val, poc-out}
 use Rattle.derivation.proofs.Runs.{refs-are}
 use Rattle.session.specs.declared.Answer.{Answer}
@@ -49,7 +49,7 @@ use Rattle.session.specs.declared.starting.Flags.{Flags}
 use Rattle.session.specs.declared.starting.Start.{Start}
 use Rattle.session.specs.declared.writing.Told.{Told}
 use Rattle.store.specs.Shelf.{word, stored}
-use Rattle.store.specs.Tails.{serialAt, serialsIn, tailIn}
+use Rattle.store.specs.Tails.{tailIn}
 use Rattle.store.specs.Bumps.{Leaves}
 use Rattle.store.specs.Runs.{wishesIn, HoldsSets, Derives}
 use Rattle.session.specs.Laid.{sizesOf, frontOf, headWords}

@@ -13,7 +13,7 @@ use Rattle.paper.specs.declared.Picture.{Picture}
 use Rattle.paper.specs.declared.Wish.{Wish}
 use Rattle.paper.specs.declared.Mark.the-variants.{Unmarked}
 use Rattle.store.specs.Shelf.{stored, NormalForm}
-use Rattle.store.specs.Tails.{serialAt, serialsIn}
+use Rattle.derivation.specs.Lists.{serialAt, serialsIn}
 use Rattle.store.specs.Runs.{answer, answers, marking, Joins, HoldsSets, MarksLong, KeepsMarks, Derives}
 use Rattle.store.specs.declared.Sizes.{Sizes}
 use Rattle.store.specs.declared.setting.Runs.{Runs}

@@ -12,7 +12,7 @@ use Rattle.paper.specs.declared.Serial.{Serial}
 use Rattle.paper.specs.declared.Wish.{Wish}
 use Rattle.paper.proofs.Bools.{not-both}
 use Rattle.store.specs.Walks.{anyAt, lowAt, shortAt}
-use Rattle.store.specs.Tails.{serialAt, serialsIn}
+use Rattle.derivation.specs.Lists.{serialAt, serialsIn}
 use Rattle.store.specs.Runs.{wishAt, wishesAt, answer, answers, Joins, JoinsOne}
 use Rattle.store.specs.declared.setting.Runs.{Runs}
 use Rattle.store.proofs.Kept.{keep-append}

@@ -20,6 +20,7 @@ use Rattle.paper.specs.declared.Mark.{Mark}
 use Rattle.paper.specs.declared.Mark.the-variants.{Unmarked, ShortTerm, LongTerm}
 use Rattle.paper.specs.declared.Picture.{Picture}
 use Rattle.paper.specs.Sets.{marked}
+pub use Rattle.derivation.proofs.Runs.{table-same}
 use Rattle.store.specs.Shelf.{word, flagOf, flagWord, markOf, markWord, pictureAt, pictures, stored, countIn, Neat, Puts, quieted, recounted}
 
 pub flag-back : (b : Bool) → flagOf (flagWord b) ≡ b
@@ -36,11 +37,6 @@ mark-back LongTerm = refl
 pub table-more : {A : Type 0} (f : ℕ → A) (i : ℕ) → table f (i + 1) ≡ table f i ++ (f i ∷ [])
 unfolding table
 table-more f i = rw (add-one i)
-
-pub table-same : {A : Type 0} (f g : ℕ → A) (n : ℕ) → ((i : ℕ) → i < n → f i ≡ g i) → table f n ≡ table g n
-unfolding table
-table-same f g zero h = refl
-table-same f g (suc n) h = ap₂ (λ (a : List _) (b : _). a ++ (b ∷ [])) (table-same f g n (λ i l. h i (omega arith))) (h n (omega arith))
 
 -- one element behind those of a table that was the same
 pub table-next : {A : Type 0} (f g : ℕ → A) (n : ℕ) (x : A) → ((i : ℕ) → i < n → f i ≡ g i) → f n ≡ x → table f (n + 1) ≡ table g n ++ (x ∷ [])

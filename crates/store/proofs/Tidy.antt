@@ -2,16 +2,15 @@
 -- form with the same pictures have the same words. Assumes nothing.
 use Prim.Native.Nat.{ℕ, zero, suc, _+_, _*_, _-_, _/_, _%_, _≤_, _<_}
 use mathlib.Core.Path.{_≡_, refl, sym, ap, _∙_}
-use mathlib.Core.List.{List, [], _∷_}
+use mathlib.Core.List.{List}
 use native.Mathlib.Omega.{arith}
 use lib.Dec.{eqb, leb}
-use lib.ListN.{length, getD, set, replicate, List·getD-append}
-use lib.Seq.{getD-set-same, getD-set-other, getD-at, ext-getD}
+use lib.ListN.{length, getD, set, replicate}
+use lib.Seq.{getD-set-same, getD-set-other, ext-getD}
 use borrow.Author.Tests.{eqb-true, eqb-false, leb-true, leb-false}
 use Rattle.paper.proofs.Bools.{split}
-use Rattle.paper.proofs.Fits.{table-length}
-use Rattle.paper.specs.Words.{table}
 use Rattle.paper.specs.declared.Picture.{Picture}
+use Rattle.derivation.proofs.Runs.{table-get}
 use Rattle.store.specs.Walks.{blank}
 use Rattle.store.specs.Shelf.{word, pictureAt, pictures, stored, countIn, wordsAt, pictureWords, Tidy, NormalForm, Puts}
 use Rattle.store.proofs.Shelf.{table-same, elsewhere, spells, neat-by, used-length}
@@ -98,20 +97,6 @@ zero-normal n =
     }
 
 -- ---- one normal form
-
-table-get : {A : Type 0} (f : ℕ → A) (n i : ℕ) (d : A) → i < n → getD (table f n) i d ≡ f i
-unfolding table
-table-get f zero i d lt = absurd (omega arith)
-table-get f (suc n) i d lt =
-    let l = table-length f n in
-    split (leb n i)
-    (λ e.
-    let le : n ≤ i = leb-true n i e in
-    let x : i ≡ n = omega arith in
-    rw x (getD-at (table f n) (f n) [] d n l))
-    (λ e.
-    let x : i < n = leb-false n i e in
-    List·getD-append (table f n) (f n ∷ []) d i (omega arith) ∙ table-get f n i d x)
 
 -- the word of a field, of the six of a place
 field : (t : List ℕ) (i g : ℕ) → g < 6 → word t (6 * i + g) ≡ getD (wordsAt t i) g 0

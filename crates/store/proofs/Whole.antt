@@ -8,7 +8,8 @@ use Rattle.paper.specs.Output as Output
 use Rattle.paper.specs.Sets.{Wishes}
 use Rattle.paper.specs.declared.Picture.{Picture}
 use Rattle.store.specs.Shelf.{stored}
-use Rattle.store.specs.Tails.{HoldsTail, serialsIn}
+use Rattle.derivation.specs.Lists.{serialsIn}
+use Rattle.store.specs.Tails.{HoldsTail}
 use Rattle.store.specs.Bumps.{Leaves}
 use Rattle.store.specs.Runs.{Derives}
 use Rattle.store.specs.declared.Tail.{Tail}

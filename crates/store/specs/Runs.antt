@@ -14,7 +14,7 @@ use Rattle.paper.specs.declared.Serial.{Serial}
 use Rattle.paper.specs.declared.Mark.{Mark}
 use Rattle.paper.specs.declared.Mark.the-variants.{Unmarked, LongTerm}
 use Rattle.paper.specs.declared.Picture.{Picture}
-use Rattle.store.specs.Tails.{serialsIn}
+use Rattle.derivation.specs.Lists.{serialsIn}
 use Rattle.store.specs.declared.setting.Runs.{Runs}
 use Rattle.store.specs.declared.Sizes.{Sizes}
 

@@ -6,8 +6,7 @@ use mathlib.Core.Bool.{Bool, not, _||_}
 use mathlib.Core.List.{List, []}
 use lib.ListN.{length}
 use lib.IntN.{pos}
-use Rattle.paper.specs.Words.{table, keep}
-use Rattle.paper.specs.Numbers.{aSerial}
+use Rattle.paper.specs.Words.{keep}
 use Rattle.paper.specs.Output.{Moved, inUse}
 use Rattle.paper.specs.Output as Output
 use Rattle.paper.specs.declared.Picture.{Picture}
@@ -16,18 +15,11 @@ use Rattle.paper.specs.declared.Surface.{Surface}
 use Rattle.paper.specs.declared.Shown.{Shown}
 use Rattle.derivation.specs.Pad.{Padded, used}
 use Rattle.derivation.specs.Lists.{blankSerial}
-use Rattle.store.specs.Shelf.{word, pictures}
+use Rattle.store.specs.Shelf.{pictures}
 use Rattle.store.specs.declared.Handed.{Handed}
 use Rattle.store.specs.declared.Thrown.{Thrown}
 use Rattle.store.specs.declared.Released.{Released}
 use Rattle.store.specs.declared.Tail.{Tail}
-
--- the serials in the first n of lent words
-abbrev pub serialAt : List ℕ → ℕ → Serial
-serialAt xs i = aSerial (word xs i)
-
-abbrev pub serialsIn : List ℕ → ℕ → List Serial
-serialsIn xs n = table (serialAt xs) n
 
 -- ---- the parts of a tail
 

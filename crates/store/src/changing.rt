@@ -6,7 +6,7 @@ ghost use Rattle.paper.specs.Sets.{isIn};
 ghost use Rattle.paper.specs.Output.{done};
 ghost use Rattle.paper.specs.Calls.{raised};
 ghost use Rattle.store.specs.Shelf.{pictureAt, pictures, Puts, Changes, Tidy};
-ghost use Rattle.store.specs.Tails.{serialsIn};
+ghost use Rattle.derivation.specs.Lists.{serialsIn};
 ghost use Rattle.store.specs.Runs.{marking, marksIf};
 use crate::Store;
 use crate::pictures::next_count;

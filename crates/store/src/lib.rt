@@ -75,13 +75,13 @@ pub struct Store {
 
 impl Store {
     // The greatest capacity.
-    pub const CAPACITY: usize = 16;
+    pub const CAPACITY: usize = derivation::CAPACITY;
 
     // Sixteen places of six words, and how many are used.
     pub const WORDS: usize = 97;
 
     // The stored pictures and the current one may go in one call.
-    pub const TAIL: usize = 17;
+    pub const TAIL: usize = derivation::CAPACITY + 1;
 
     // The least reply buffer, in bytes.
     pub const REPLY: usize = 512;

@@ -5,7 +5,7 @@ ghost use Prim.Native.Nat.{ℕ, _+_, _^_, _≤_, _<_, min};
 ghost use Rattle.paper.specs.Numbers.{bit, aSerial};
 ghost use Rattle.paper.specs.Sets.{unmarkedIf};
 ghost use Rattle.store.specs.Shelf.{word, stored, NormalForm};
-ghost use Rattle.store.specs.Tails.{serialsIn};
+ghost use Rattle.derivation.specs.Lists.{serialsIn};
 ghost use Rattle.store.specs.Runs.{wishesAt, wishesIn, answer, Joins, JoinsOne, MarksLong, KeepsMarks, Derives};
 use crate::Sizes;
 use crate::Store;

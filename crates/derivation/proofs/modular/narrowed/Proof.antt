@@ -12,6 +12,7 @@ use mir.Facts.{toZ-ofZ}
 use Rattle.derivation.specs.Answers.{narrowOf}
 use Rattle.derivation.specs.declared.modular.Narrow.the-variants.{Outside}
 use Rattle.paper.proofs.Whole.{up, dn, ltZ-true, ltZ-false, up-pos, dn-pos, up-neg, dn-neg, to-fits, mag-up, mag-dn}
+use Rattle.derivation.proofs.Numbered.{narrow-says}
 use Rattle.derivation.proofs.modular.narrowed.Statement.{statement}
 use Rattle.derivation.proofs.modular.narrowed.Tie as tie
 
@@ -37,10 +38,10 @@ module _ (z : ℤ) (f : SFits w64 z) where
       (omega (arith, ltZ-false z (negsuc 2147483647) l, up-neg 2147483647, dn-neg 2147483647))
 
 returns : tie.Need-returns
-returns c = under (c .before .args .z) (c .before .fits .z) (c .if1 .taken)
+returns c = narrow-says (c .before .args .z) (under (c .before .args .z) (c .before .fits .z) (c .if1 .taken))
 
 returns-2 : tie.Need-returns-2
-returns-2 c = over (c .before .before .args .z) (c .before .before .fits .z) (c .if2 .taken)
+returns-2 c = narrow-says (c .before .before .args .z) (over (c .before .before .args .z) (c .before .before .fits .z) (c .if2 .taken))
 
 cast-t3 : tie.Need-cast-t3
 cast-t3 c =
@@ -50,7 +51,7 @@ cast-t3 c =
 returns-3 : tie.Need-returns-3
 returns-3 c =
     let s = within (c .before .before .args .z) (c .before .before .fits .z) (c .before .if1 .left) (c .if2 .left) in
-    simp (toZ-ofZ (c .before .before .fits .z), toZ-ofZ s, lt-ltb (mag (c .before .before .args .z)) (2 ^ 31) (s .sfits))
+    narrow-says (c .before .before .args .z) (simp (toZ-ofZ (c .before .before .fits .z), toZ-ofZ s, lt-ltb (mag (c .before .before .args .z)) (2 ^ 31) (s .sfits)))
 
 pub narrowed-spec : {M : Type 1} → statement M
 narrowed-spec = tie.close (tie.spec returns returns-2 cast-t3 returns-3)

@@ -15,7 +15,7 @@ class-idr-requires c κs = search needs
 
 returns : tie.Need-returns
 unfolding classOf
-returns c = let s = c .before .before in c .class-idr .ensures ∙ by-class idr idrIn tt (s .args .t) (s .fits .t .fits) (c .before .nal-class .ensures)
+returns c = let s = c .before .before in c .class-idr .ensures ∙ by-class idr idrIn tt (s .args .t) (s .fits .t .fits) (c .before .nal-class .ensures .0)
 
 pub is-idr-spec : {M : Type 1} → statement M
 is-idr-spec = tie.close (tie.spec nal-class-requires class-idr-requires returns)

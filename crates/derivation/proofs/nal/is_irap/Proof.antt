@@ -15,7 +15,7 @@ class-irap-requires c κs = search needs
 
 returns : tie.Need-returns
 unfolding classOf
-returns c = let s = c .before .before in c .class-irap .ensures ∙ by-class irap irapIn tt (s .args .t) (s .fits .t .fits) (c .before .nal-class .ensures)
+returns c = let s = c .before .before in c .class-irap .ensures ∙ by-class irap irapIn tt (s .args .t) (s .fits .t .fits) (c .before .nal-class .ensures .0)
 
 pub is-irap-spec : {M : Type 1} → statement M
 is-irap-spec = tie.close (tie.spec nal-class-requires class-irap-requires returns)

@@ -15,7 +15,7 @@ class-taken-requires c κs = search needs
 
 returns : tie.Need-returns
 unfolding classOf
-returns c = let s = c .before .before in c .class-taken .ensures ∙ by-class taken takenIn tt (s .args .t) (s .fits .t .fits) (c .before .nal-class .ensures)
+returns c = let s = c .before .before in c .class-taken .ensures ∙ by-class taken takenIn tt (s .args .t) (s .fits .t .fits) (c .before .nal-class .ensures .0)
 
 pub is-taken-spec : {M : Type 1} → statement M
 is-taken-spec = tie.close (tie.spec nal-class-requires class-taken-requires returns)

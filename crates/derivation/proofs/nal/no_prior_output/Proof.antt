@@ -20,7 +20,7 @@ returns : tie.Need-returns
 unfolding classOf
 returns c =
     let s = c .before .before .before in
-    let e = c .before .before .nal-class .ensures in
+    let e = c .before .before .nal-class .ensures .0 in
     rw (
       c .before .class-irap .ensures ∙ by-class irap irapIn tt (s .args .t) (s .fits .t .fits) e,
       c .class-cra .ensures ∙ by-class cra craIn tt (s .args .t) (s .fits .t .fits) e,

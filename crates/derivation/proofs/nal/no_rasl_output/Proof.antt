@@ -23,7 +23,7 @@ anew false t h = bytes-agree (λ (n : ℕ). noRaslIn (classOf n) false) (λ (n :
 returns : tie.Need-returns
 returns c =
     let s = c .before .before in
-    rw (c .class-no-rasl .ensures, c .before .nal-class .ensures, anew (s .args .at-start) (s .args .t) (s .fits .t .fits))
+    rw (c .class-no-rasl .ensures, c .before .nal-class .ensures .0, anew (s .args .at-start) (s .args .t) (s .fits .t .fits))
 
 pub no-rasl-output-spec : {M : Type 1} → statement M
 no-rasl-output-spec = tie.close (tie.spec nal-class-requires class-no-rasl-requires returns)

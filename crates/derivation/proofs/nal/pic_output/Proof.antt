@@ -17,7 +17,7 @@ returns : tie.Need-returns
 unfolding classOf
 returns c =
     let s = c .before .before in
-    rw (c .class-rasl .ensures ∙ by-class rasl raslIn tt (s .args .t) (s .fits .t .fits) (c .before .nal-class .ensures))
+    rw (c .class-rasl .ensures ∙ by-class rasl raslIn tt (s .args .t) (s .fits .t .fits) (c .before .nal-class .ensures .0))
 
 pub pic-output-spec : {M : Type 1} → statement M
 pic-output-spec = tie.close (tie.spec nal-class-requires class-rasl-requires returns)

@@ -27,7 +27,7 @@ valid false t h = refl
 returns : tie.Need-returns
 returns c =
     let s = c .before .before .before in
-    rw (c .class-prev .ensures, c .before .before .nal-class .ensures, c .before .non-reference .ensures) (valid (eqb (s .args .tid) 0) (s .args .t) (s .fits .t .fits))
+    rw (c .class-prev .ensures, c .before .before .nal-class .ensures .0, c .before .non-reference .ensures) (valid (eqb (s .args .tid) 0) (s .args .t) (s .fits .t .fits))
 
 pub valid-prev-spec : {M : Type 1} → statement M
 valid-prev-spec =

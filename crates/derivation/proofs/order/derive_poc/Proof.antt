@@ -6,9 +6,10 @@ use borrow.Author.Needs.{needs}
 use mir.Syntax.{w32, w64}
 use mir.Val.{toZ, ofZ}
 use Rattle.paper.specs.declared.Prev.{Prev}
-use Rattle.paper.specs.Poc.{msbOf}
+use Rattle.paper.specs.Poc.{msbOf, pocOf}
 use Rattle.derivation.specs.Answers.{pocAnswer}
 use Rattle.derivation.proofs.Mask.{pow-most}
+use Rattle.derivation.proofs.Numbered.{poc-says}
 use Rattle.derivation.proofs.order.derive_poc.Statement.{statement}
 use Rattle.derivation.proofs.order.derive_poc.Tie as tie
 
@@ -34,7 +35,9 @@ returns : tie.Need-returns
 unfolding msbOf
 returns c =
     let a = c .before .before .before .args in
-    c .with-lsb .ensures ∙ sym (ap (λ (p : Prev). pocAnswer (2 ^ min (a .k) 16) p (a .lsb)) (c .before .enum-told .given .1))
+    let M = 2 ^ min (a .k) 16 in
+    poc-says (msbOf M (a .prev) (a .lsb)) (pocOf M (a .prev) (a .lsb))
+    (c .with-lsb .ensures .0 ∙ sym (ap (λ (p : Prev). pocAnswer M p (a .lsb)) (c .before .enum-told .given .1)))
 
 returns-2 : tie.Need-returns-2
 returns-2 c =
@@ -43,8 +46,10 @@ returns-2 c =
     let Q = p .prev .given .0 .1 .0 in
     let r : toZ w64 (ofZ w64 (x .msb-exact .result)) ≡ x .msb-exact .result = search needs in
     let t : toZ w32 (ofZ w32 Q) ≡ Q = search needs in
-    c .with-lsb2 .ensures
-    ∙ rw (r, x .msb-exact .ensures, t, x .before .modulus .ensures, p .prev .given .1)
+    let a = p .before .before .args in
+    let M = 2 ^ min (a .k) 16 in
+    poc-says (msbOf M (a .prev) (a .lsb)) (pocOf M (a .prev) (a .lsb))
+    (c .with-lsb2 .ensures .0 ∙ rw (r, x .msb-exact .ensures, t, x .before .modulus .ensures, p .prev .given .1))
 
 pub derive-poc-spec : {M : Type 1} → statement M
 derive-poc-spec =

@@ -9,12 +9,13 @@ use mir.Facts.{toZ-ofZ, toZ-pos, sfits-widen}
 use Rattle.derivation.specs.Answers.{narrowOf}
 use Rattle.paper.proofs.Whole.{up-add, up-pos, dn-pos, up-fits, dn-fits, to-fits, wide-is}
 use Rattle.derivation.proofs.Narrowing.{in-is, in-test, in-fits, out-test}
+use Rattle.derivation.proofs.Numbered.{poc-says}
 use Rattle.derivation.proofs.order.with_lsb.Statement.{statement}
 use Rattle.derivation.proofs.order.with_lsb.Tie as tie
 
 -- a signed argument is passed as its bits
 first : (c : tie.After-narrowed) → c .narrowed .result ≡ narrowOf (c .before .args .msb)
-first c = c .narrowed .ensures ∙ rw (toZ-ofZ (c .before .fits .msb))
+first c = c .narrowed .ensures .0 ∙ rw (toZ-ofZ (c .before .fits .msb))
 
 hi-is : (c : tie.After-hi) → c .hi .given .0 .0 ≡ c .before .before .before .args .msb
 hi-is c = in-is (c .before .before .before .args .msb) _ _ (first (c .before .before)) (c .hi .given .1)
@@ -38,7 +39,7 @@ lsb-is c = let b = c .before .before .before .fits .lsb in toZ-pos w64 (omega ar
 second : (c : tie.After-narrowed2) → c .narrowed2 .result ≡ narrowOf (c .before .before .before .before .before .args .msb +ℤ pos (c .before .before .before .before .before .args .lsb))
 second c =
     let d = c .before .before in
-    c .narrowed2 .ensures
+    c .narrowed2 .ensures .0
     ∙ rw (wide-is (hi-fits d), lsb-is d, toZ-ofZ (sum-fits d), hi-is d)
 
 narrowed-requires : tie.Need-narrowed-requires
@@ -69,14 +70,14 @@ enum-known-v : tie.Need-enum-known-v
 enum-known-v c = search needs
 
 returns : tie.Need-returns
-returns c = rw (out-test (c .before .before .before .args .msb) _ (first (c .before .before)) (c .enum-told .given .1))
+returns c = let a = c .before .before .before .args in poc-says (a .msb) (a .msb +ℤ pos (a .lsb)) (rw (out-test (c .before .before .before .args .msb) _ (first (c .before .before)) (c .enum-told .given .1)))
 
 returns-2 : tie.Need-returns-2
 returns-2 c =
     let n = c .before .before in
     let a = n .before .before .before .before in
     let z = a .before .args .msb +ℤ pos (a .before .args .lsb) in
-    rw (in-test (a .before .args .msb) _ _ (first a) (n .before .before .hi .given .1), out-test z _ (second n) (c .enum-told2 .given .1))
+    poc-says (a .before .args .msb) z (rw (in-test (a .before .args .msb) _ _ (first a) (n .before .before .hi .given .1), out-test z _ (second n) (c .enum-told2 .given .1)))
 
 returns-3 : tie.Need-returns-3
 returns-3 c =
@@ -85,14 +86,15 @@ returns-3 c =
     let d = n .before .before in
     let a = d .before .before in
     let z = a .before .args .msb +ℤ pos (a .before .args .lsb) in
-    rw (
+    poc-says (a .before .args .msb) z
+    (rw (
       toZ-ofZ (hi-fits d),
       hi-is d,
       in-is z _ _ (second n) (v .v .given .1),
       toZ-ofZ (in-fits z _ _ (second n) (v .v .given .1)),
       in-test (a .before .args .msb) _ _ (first a) (d .hi .given .1),
       in-test z _ _ (second n) (v .v .given .1),
-    )
+    ))
 
 pub with-lsb-spec : {M : Type 1} → statement M
 with-lsb-spec =

@@ -3,14 +3,14 @@ use borrow.Author.Needs.{needs}
 use Rattle.derivation.proofs.ranges.taken_limits.Statement.{statement}
 use Rattle.derivation.proofs.ranges.taken_limits.Tie as tie
 
-at-most-16-requires : tie.Need-at-most-16-requires
-at-most-16-requires c κs = search needs
+taken-bits-requires : tie.Need-taken-bits-requires
+taken-bits-requires c κs = search needs
 
-at-most-16-requires-2 : tie.Need-at-most-16-requires-2
-at-most-16-requires-2 c κs = search needs
+taken-capacity-requires : tie.Need-taken-capacity-requires
+taken-capacity-requires c κs = search needs
 
 returns : tie.Need-returns
-returns c = rw (c .before .at-most-16 .ensures, c .at-most-162 .ensures)
+returns c = rw (c .before .taken-bits .ensures, c .taken-capacity .ensures)
 
 pub taken-limits-spec : {M : Type 1} → statement M
-taken-limits-spec = tie.close (tie.spec at-most-16-requires at-most-16-requires-2 returns)
+taken-limits-spec = tie.close (tie.spec taken-bits-requires taken-capacity-requires returns)

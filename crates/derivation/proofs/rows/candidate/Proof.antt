@@ -1,4 +1,5 @@
--- `derivation::rows::candidate`: within the run its element, and behind it the current picture.
+-- `derivation::rows::candidate`: within the run its member, and behind it the current picture.
+use mathlib.Core.Path.{_∙_}
 use denote.Ref.{now}
 use native.Mathlib.Omega.{arith}
 use Rattle.derivation.proofs.Runs.{stands-inside, stands-past}
@@ -22,18 +23,16 @@ returns c own =
     let g = k .before .before .args in
     stands-past (now (g .run)) (g .refs) own (g .second) (g .c) (g .i) (a .stands .result) (k .count-run .ensures .1) (a .stands .ensures) (omega arith)
 
-mul-t7 : tie.Need-mul-t7
-mul-t7 c = search needs
-
-element-copy-out-t12 : tie.Need-element-copy-out-t12
-element-copy-out-t12 c = search needs
+member-requires : tie.Need-member-requires
+member-requires c κs = search needs
 
 returns-2 : tie.Need-returns-2
 returns-2 c own =
     let a = c .before .before .before in
     let k = a .before in
     let g = k .before .before .args in
-    stands-inside (now (g .run)) (g .refs) own (g .second) (g .c) (g .i) (a .stands .result) (k .count-run .ensures .1) (a .stands .ensures) (omega arith)
+    c .member .ensures
+    ∙ stands-inside (now (g .run)) (g .refs) own (g .second) (g .c) (g .i) (a .stands .result) (k .count-run .ensures .1) (a .stands .ensures) (omega arith)
 
 pub candidate-spec : {M : Type 1} → statement M
 candidate-spec =
@@ -43,6 +42,5 @@ candidate-spec =
     stands-requires
     member-count-requires
     returns
-    mul-t7
-    element-copy-out-t12
+    member-requires
     returns-2)

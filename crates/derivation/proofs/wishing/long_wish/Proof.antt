@@ -1,10 +1,13 @@
 -- `derivation::wishing::long_wish`: either case is its case of `longWish`.
 use mathlib.Core.Path.{_≡_, sym, _∙_}
+use Prim.Native.Nat.{_^_, min}
 use native.Mathlib.Omega.{arith}
 use mir.Syntax.{w64}
 use mir.Val.{toZ, ofZ}
 use mir.Facts.{toZ-ofZ, toZ-pos}
 use borrow.Author.Needs.{needs}
+use Rattle.paper.specs.Sets.{longWish}
+use Rattle.derivation.proofs.Numbered.{wanted-says}
 use Rattle.derivation.proofs.wishing.long_wish.Statement.{statement}
 use Rattle.derivation.proofs.wishing.long_wish.Tie as tie
 
@@ -26,7 +29,8 @@ returns c =
     let i = x .before in
     let s = i .before .before .before in
     let r : toZ w64 (ofZ w64 (x .long-exact .result)) ≡ x .long-exact .result = search needs in
-    c .wish-at .ensures ∙ rw (r, x .long-exact .ensures, toZ-ofZ (s .fits .poc), i .before .before .bit0 .ensures, sym (i .before .bit1 .ensures) ∙ i .if1 .taken)
+    wanted-says (longWish (2 ^ min (s .args .k) 16) (s .args .poc) (s .args .e))
+    (c .wish-at .ensures .0 ∙ rw (r, x .long-exact .ensures, toZ-ofZ (s .fits .poc), i .before .before .bit0 .ensures, sym (i .before .bit1 .ensures) ∙ i .if1 .taken))
 
 cast-wish-at : tie.Need-cast-wish-at
 cast-wish-at c = search needs
@@ -38,7 +42,8 @@ returns-2 : tie.Need-returns-2
 returns-2 c =
     let i = c .before in
     let s = i .before .before .before in
-    c .wish-at2 .ensures ∙ rw (toZ-pos w64 {n = s .args .e .lsb} (omega arith), i .before .before .bit0 .ensures, sym (i .before .bit1 .ensures) ∙ i .if1 .left)
+    wanted-says (longWish (2 ^ min (s .args .k) 16) (s .args .poc) (s .args .e))
+    (c .wish-at2 .ensures .0 ∙ rw (toZ-pos w64 {n = s .args .e .lsb} (omega arith), i .before .before .bit0 .ensures, sym (i .before .bit1 .ensures) ∙ i .if1 .left))
 
 pub long-wish-spec : {M : Type 1} → statement M
 long-wish-spec =

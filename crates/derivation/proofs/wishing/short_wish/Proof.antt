@@ -5,6 +5,8 @@ use mir.Val.{SFits}
 use mir.Facts.{toZ-ofZ, sfits-widen}
 use Rattle.paper.proofs.Whole.{wide-is, sum-fits}
 use borrow.Author.Needs.{needs}
+use Rattle.paper.specs.Sets.{shortWish}
+use Rattle.derivation.proofs.Numbered.{wanted-says}
 use Rattle.derivation.proofs.wishing.short_wish.Statement.{statement}
 use Rattle.derivation.proofs.wishing.short_wish.Tie as tie
 
@@ -28,7 +30,7 @@ returns c =
     let s = c .before .before in
     let f = s .fits .poc in
     let g : SFits w32 (s .args .e .delta) = search needs in
-    c .wish-at .ensures ∙ rw (wide-is f, wide-is g, toZ-ofZ (sum-fits f g))
+    wanted-says (shortWish (s .args .poc) (s .args .e)) (c .wish-at .ensures .0 ∙ rw (wide-is f, wide-is g, toZ-ofZ (sum-fits f g)))
 
 pub short-wish-spec : {M : Type 1} → statement M
 short-wish-spec =

@@ -21,7 +21,7 @@ counted c =
     record {
       head = c .before .before .before .before .before .before .before .before .before .before .before .head-of .ensures;
       flags = c .before .before .flags-of .ensures ∙ (λ i. flagsFrom (c .before .before .before .before .before .is-first .ensures i) (c .before .before .before .is-ended .ensures i) (c .before .before .before .before .before .before .before .before .before .before .before .head-of .result));
-      poc = c .derive-poc .ensures ∙ (λ i. pocAnswer (modulus (c .before .before .before .before .before .before .before .before .before .limits-in .ensures i)) ((c .before .prev-for .ensures ∙ ap (prevFrom (c .before .before .flags-of .result .over)) (c .before .before .before .before .before .before .before .prev-in .ensures)) i) (c .before .before .before .before .before .before .before .before .before .before .before .head-of .result .lsb));
+      poc = c .derive-poc .ensures .0 ∙ (λ i. pocAnswer (modulus (c .before .before .before .before .before .before .before .before .before .limits-in .ensures i)) ((c .before .prev-for .ensures ∙ ap (prevFrom (c .before .before .flags-of .result .over)) (c .before .before .before .before .before .before .before .prev-in .ensures)) i) (c .before .before .before .before .before .before .before .before .before .before .before .head-of .result .lsb));
     }
 
 head-of-requires : tie.Need-head-of-requires

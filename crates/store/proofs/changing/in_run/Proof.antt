@@ -7,7 +7,7 @@ use denote.Ref.{now}
 use borrow.Author.Tests.{eq-eqb, ne-eqb}
 use Rattle.paper.specs.Sets.{isIn}
 use Rattle.paper.specs.Numbers.{sameSerial}
-use Rattle.store.specs.Tails.{serialAt, serialsIn}
+use Rattle.derivation.specs.Lists.{serialAt, serialsIn}
 use Rattle.store.proofs.Walks.{any-none, any-miss, any-hit}
 use Rattle.store.proofs.changing.in_run.Statement.{statement}
 use Rattle.store.proofs.changing.in_run.Tie as tie

@@ -3,7 +3,7 @@ use mathlib.Core.Path.{sym}
 use denote.Ref.{now}
 use borrow.Author.Needs.{needs}
 use Rattle.paper.specs.Numbers.{sameSerial}
-use Rattle.store.specs.Tails.{serialsIn}
+use Rattle.derivation.specs.Lists.{serialsIn}
 use Rattle.store.proofs.Walks.{any-append}
 use Rattle.store.proofs.changing.in_runs.Statement.{statement}
 use Rattle.store.proofs.changing.in_runs.Tie as tie

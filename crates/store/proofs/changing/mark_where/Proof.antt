@@ -8,7 +8,7 @@ use borrow.Author.Needs.{needs}
 use Rattle.paper.specs.declared.Picture.{Picture}
 use Rattle.paper.specs.Sets.{isIn}
 use Rattle.store.specs.Runs.{marking}
-use Rattle.store.specs.Tails.{serialsIn}
+use Rattle.derivation.specs.Lists.{serialsIn}
 use Rattle.store.specs.Shelf.{pictureAt, countIn}
 use Rattle.store.proofs.Changed.{Changed, changed-none, changed-more, changed-stored, puts-as, marking-is}
 use Rattle.store.proofs.changing.mark_where.Statement.{statement}

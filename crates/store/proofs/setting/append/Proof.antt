@@ -7,7 +7,7 @@ use Prim.Native.Nat.{ℕ, _+_, _-_, _≤_}
 use Rattle.paper.specs.Words.{table}
 use Rattle.store.proofs.Runs.{append-more}
 use Rattle.store.specs.Shelf.{word}
-use Rattle.store.specs.Tails.{serialsIn}
+use Rattle.derivation.specs.Lists.{serialsIn}
 use Rattle.store.proofs.setting.append.Statement.{statement}
 use Rattle.store.proofs.setting.append.Tie as tie
 

@@ -3,7 +3,7 @@ use mathlib.Core.List.{append-nil}
 use mathlib.Core.Path.{sym, refl}
 use denote.Ref.{now}
 use native.Mathlib.Omega.{arith}
-use Rattle.store.specs.Tails.{serialsIn}
+use Rattle.derivation.specs.Lists.{serialsIn}
 use borrow.Author.Needs.{needs}
 use Rattle.store.proofs.setting.join.Statement.{statement}
 use Rattle.store.proofs.setting.join.Tie as tie
