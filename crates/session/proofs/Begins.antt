@@ -1,5 +1,5 @@
 -- A begin, stage by stage: what the code has read and computed is what the paper's steps say. Assumes nothing.
-use Prim.Native.Nat.{ℕ, _+_, _≤_, _^_}
+use Prim.Native.Nat.{ℕ, _+_, _≤_, _^_, min}
 use mathlib.Core.Path.{_≡_, refl, sym, ap, _∙_, subst}
 use mathlib.Core.List.{List, [], _∷_, _++_, map-append, append-assoc}
 use mathlib.Core.Bool.{Bool, true, false, cond, not, _&&_}
@@ -38,17 +38,21 @@ use Rattle.derivation.specs.declared.order.Poc.{Poc}
 use Rattle.derivation.specs.declared.order.Poc.the-variants as A
 use Rattle.derivation.specs.declared.rows.Refs.{Refs}
 use Rattle.derivation.specs.Answers.{pocAnswer}
-use Rattle.derivation.specs.Lists.{refsIn, serialAt, serialsIn}
+use Rattle.derivation.specs.Pad.{Padded, used}
+use Rattle.derivation.specs.Lists.{blankSerial, serialsIn, memberAt, membersOf, refsIn}
+use Rattle.derivation.proofs.Pad.{is-view, is-long}
 use Rattle.derivation.proofs.Numbered.{poc-val, poc-out}
 use Rattle.derivation.proofs.Runs.{refs-are}
 use Rattle.session.specs.declared.Answer.{Answer}
 use Rattle.store.specs.declared.Sizes.{Sizes}
-use Rattle.store.specs.declared.Tail as Store
+use Rattle.store.specs.declared.Derived.{Derived}
+use Rattle.store.specs.declared.Moved as Store
 use Rattle.session.specs.declared.reading.Head.{Head}
 use Rattle.session.specs.declared.starting.Flags.{Flags}
 use Rattle.session.specs.declared.starting.Start.{Start}
 use Rattle.session.specs.declared.writing.Told.{Told}
 use Rattle.store.specs.Shelf.{word, stored}
+use Rattle.store.specs.Places.{front, storedIn}
 use Rattle.store.specs.Tails.{tailIn}
 use Rattle.store.specs.Bumps.{Leaves}
 use Rattle.store.specs.Runs.{wishesIn, HoldsSets, Derives}
@@ -60,7 +64,7 @@ use Rattle.session.specs.Parts.{headOf, HoldsWishes}
 use Rattle.session.specs.Written.{FewMembers, numbersFrom, memberBytes, begunPart, toldBytes}
 use Rattle.session.specs.Starts.{flagsFrom, prevFrom, currentFrom, toldFrom, refsFrom, Passed, Placed, Wished, Tells}
 use Rattle.store.proofs.Shelf.{table-same, table-map, table-join}
-use Rattle.session.proofs.Bytes.{words-join}
+use Rattle.session.proofs.Bytes.{take-table, words-join}
 use Rattle.session.proofs.Entries.{entries-are}
 use Rattle.session.proofs.Ways.{begin-6, begin-0}
 use Rattle.session.proofs.Wishing.{apart}
@@ -117,34 +121,43 @@ few-of {s} {r} p = subst (λ (x : Head). x .neg + x .pos + x .lt ≤ 16) (sym (p
 
 -- ---- the reply: the members of the sets in the paper's order
 
-pub few-members : {us vs : List ℕ} {x : Sizes} {y : Sets} → HoldsSets us vs x y → FewMembers x
+pub few-members : {us vs : List Serial} {x : Sizes} {y : Sets} → HoldsSets us vs x y → FewMembers x
 few-members h = record { all = h .few }
 
 abbrev num : Serial → ℕ
 num n = n .0
 
--- the numbers of a run that begins with two lists
-run-parts : (xs : List ℕ) (n m : ℕ) (a b : List Serial) → serialsIn xs (n + m) ≡ a ++ b → n ≡ length a → (numbersFrom xs 0 n ≡ serialNos a) × (numbersFrom xs n m ≡ serialNos b)
-run-parts xs n m a b e l =
-    let w : table (word xs) n ++ numbersFrom xs n m ≡ serialNos a ++ serialNos b =
-    sym (table-join (word xs) n m) ∙ sym (table-map num (serialAt xs) (n + m)) ∙ ap serialNos e ∙ map-append num a b
-    in
-    let k = apart w (table-length (word xs) n ∙ l ∙ sym (length-map a num)) in
-    let z : (i : ℕ) → 0 + i ≡ i = λ i. omega arith in
-    (table-same (λ (i : ℕ). word xs (0 + i)) (word xs) n (λ i h. ap (word xs) (z i)) ∙ k .0, k .1)
+-- the members that an array holds
+members-held : {xs : List Serial} {n : ℕ} {l : List Serial} → Padded 16 blankSerial xs n l → membersOf xs n ≡ l
+unfolding used
+members-held {xs} {n} h = sym (take-table blankSerial xs n (omega (arith, is-long h, h .room))) ∙ is-view h
 
-members-are : {us vs : List ℕ} {x : Sizes} {y : Sets} → HoldsSets us vs x y → memberBytes x us vs ≡ words (serialNos (inOrder y))
+-- the numbers of a run that begins with two lists
+run-parts : (xs : List Serial) (n m : ℕ) (a b : List Serial) → Padded 16 blankSerial xs (n + m) (a ++ b) → n ≡ length a → (numbersFrom xs 0 n ≡ serialNos a) × (numbersFrom xs n m ≡ serialNos b)
+run-parts xs n m a b h l =
+    let g : ℕ → ℕ = λ i. memberAt xs i .0 in
+    let w : table g n ++ numbersFrom xs n m ≡ serialNos a ++ serialNos b =
+    sym (table-join g n m) ∙ sym (table-map num (memberAt xs) (n + m)) ∙ ap serialNos (members-held h) ∙ map-append num a b
+    in
+    let k = apart w (table-length g n ∙ l ∙ sym (length-map a num)) in
+    let z : (i : ℕ) → 0 + i ≡ i = λ i. omega arith in
+    (table-same (λ (i : ℕ). g (0 + i)) g n (λ i h. ap g (z i)) ∙ k .0, k .1)
+
+members-are : {us vs : List Serial} {x : Sizes} {y : Sets} → HoldsSets us vs x y → memberBytes x us vs ≡ words (serialNos (inOrder y))
 members-are {us} {vs} {x} {y} h =
     let n : x .before + x .after ≡ length (y .before ++ y .after) = omega (arith, length-append (y .before) (y .after), h .before, h .after) in
-    let u = run-parts us (x .before + x .after) (x .long) (y .before ++ y .after) (y .ltCurr) (h .first ∙ sym (append-assoc (y .before) (y .after) (y .ltCurr))) n in
+    let u = run-parts us (x .before + x .after) (x .long) (y .before ++ y .after) (y .ltCurr) (rw (append-assoc (y .before) (y .after) (y .ltCurr)) (h .first)) n in
     let v = run-parts vs (x .foll) (x .«lt_foll») (y .foll) (y .ltFoll) (h .second) (h .foll) in
     rw (u .0, u .1, v .0, v .1)
     (sym (words-join num (y .before ++ y .after ++ y .foll ++ y .ltCurr) (y .ltFoll)
     ∙ ap (λ (z : List ℕ). z ++ words (serialNos (y .ltFoll))) (words-join num (y .before ++ y .after ++ y .foll) (y .ltCurr)
     ∙ ap (λ (z : List ℕ). z ++ words (serialNos (y .ltCurr))) (words-join num (y .before ++ y .after) (y .foll)))))
 
-refs-held : {us vs : List ℕ} {x : Sizes} {y : Sets} → length us ≡ 16 → HoldsSets us vs x y → refsIn us (refsFrom x) ≡ refsOf y
-refs-held {us} {vs} {x} {y} l h = refs-are us (refsFrom x) (y .before) (y .after) (y .ltCurr) (omega (arith, h .few)) (h .first) (h .before) (h .after) (h .long)
+-- the run that the members were written to
+refs-held : {us vs : List Serial} {x : Sizes} {y : Sets} (xs : List ℕ) → length xs ≡ 16 → HoldsSets us vs x y → serialsIn xs (x .before + x .after + x .long) ≡ membersOf us (x .before + x .after + x .long)
+    → refsIn xs (refsFrom x) ≡ refsOf y
+refs-held {us} {vs} {x} {y} xs l h e =
+    refs-are xs (refsFrom x) (y .before) (y .after) (y .ltCurr) (omega (arith, h .few)) (e ∙ members-held (h .first)) (h .before) (h .after) (h .long)
 
 -- ---- what the stages of the code are in the paper's words
 
@@ -209,7 +222,7 @@ module _ (s : Session) (r : List ℕ) (h : Head) (t : Start) (ps : List ℤ) (hs
       let k = same-flags in
       λ i. toldBytes (record { poc = q .placed .poc i; flags = flagAt 0 (k .rasl i) + flagAt 1 (k .output i) + flagAt 2 (k .valid i) + flagAt 3 (k .prior i); serial = aSerial (s .next) })
 
-  begun-bytes : {us vs : List ℕ} (x : Sizes) → HoldsSets us vs x (sets s g) → begunPart (toldFrom (s .next) t) x us vs ≡ begunBytes (begunOf s g)
+  begun-bytes : {us vs : List Serial} (x : Sizes) → HoldsSets us vs x (sets s g) → begunPart (toldFrom (s .next) t) x us vs ≡ begunBytes (begunOf s g)
   unfolding begunBytes
   begun-bytes x k = λ i. told-is i ++ (k .before i ∷ k .after i ∷ k .foll i ∷ k .long i ∷ k .ltFoll i ∷ []) ++ members-are k i
 
@@ -218,14 +231,14 @@ module _ (s : Session) (r : List ℕ) (h : Head) (t : Start) (ps : List ℤ) (hs
 
 -- ---- step 5 and the reply
 
-pub tells : (h us vs p : List ℕ) (t : Start) (x : Sizes) {l : Limits} {b : Bool} {y : Told} {p′ : List ℕ} {c : Store.Tail} {before : List ℕ} {a : Answer} {after : List ℕ}
-    → l ≡ limitsAt h → b ≡ flagOf (word h 2) → y ≡ toldFrom (word h 3) t → Leaves (beforeDecoding (t .flags .over && not b) (t .flags .prior) l (stored p)) p p′ c
-    → Says (framed 258 0 (begunPart y x us vs ++ tailBytes (tailIn c))) before a after → Tells h us vs p t x before a p′ after
-tells h us vs p t x {l} {b} {y} {p′} {c} {before} {a} {after} el eb ey k w =
-    let m : beforeDecoding (t .flags .over && not b) (t .flags .prior) l (stored p) ≡ beforeDecoding (t .flags .over && not (flagOf (word h 2))) (t .flags .prior) (limitsAt h) (stored p) =
-    λ i. beforeDecoding (t .flags .over && not (eb i)) (t .flags .prior) (el i) (stored p)
+pub tells : (h : List ℕ) (us vs : List Serial) (ps : List Picture) (p : List ℕ) (t : Start) (x : Sizes) {l : Limits} {b : Bool} {y : Told} {p′ : List ℕ} {c : Store.Moved} {before : List ℕ} {a : Answer} {after : List ℕ}
+    → l ≡ limitsAt h → b ≡ flagOf (word h 2) → y ≡ toldFrom (word h 3) t → Leaves (beforeDecoding (t .flags .over && not b) (t .flags .prior) l ps) p p′ c
+    → Says (framed 258 0 (begunPart y x us vs ++ tailBytes (tailIn c))) before a after → Tells h us vs ps p t x before a p′ after
+tells h us vs ps p t x {l} {b} {y} {p′} {c} {before} {a} {after} el eb ey k w =
+    let m : beforeDecoding (t .flags .over && not b) (t .flags .prior) l ps ≡ beforeDecoding (t .flags .over && not (flagOf (word h 2))) (t .flags .prior) (limitsAt h) ps =
+    λ i. beforeDecoding (t .flags .over && not (eb i)) (t .flags .prior) (el i) ps
     in
-    let e : tailIn c ≡ beforeDecoding (t .flags .over && not (flagOf (word h 2))) (t .flags .prior) (limitsAt h) (stored p) .tail = tail-held (k .tail) ∙ ap (λ (z : Moved). z .tail) m in
+    let e : tailIn c ≡ beforeDecoding (t .flags .over && not (flagOf (word h 2))) (t .flags .prior) (limitsAt h) ps .tail = tail-held (k .tail) ∙ ap (λ (z : Moved). z .tail) m in
     record {
       pics = k .pics ∙ ap (λ (z : Moved). z .pics) m;
       normal = k .normal;
@@ -235,26 +248,35 @@ tells h us vs p t x {l} {b} {y} {p′} {c} {before} {a} {after} el eb ey k w =
 -- ---- a begin that nothing refuses, from what its parts did: the marks and the sets, then the room and the reply, then the words beside the store
 
 module _ (m : Memory) (r : List ℕ) (h : Head) (t : Start) (ps : List ℤ) (hs : List ℕ) (q : Wished (sessionIn m) r h t ps hs)
-    {l : Limits} {p us vs : List ℕ} {x : Sizes} (el : l ≡ limitsAt (m .head)) (d : Derives (modulus l) (unmarkedIf (t .flags .over) (stored (m .places))) (wishesIn ps hs (h .neg) (h .pos) (h .lt)) (m .places) (m .sets) p us vs x)
-    {before : List ℕ} {a : Answer} {p′ after : List ℕ} (w : Tells (m .head) us vs p t x before a p′ after) (n : length us ≡ 16) where
+    {l : Limits} (y : Derived) (el : l ≡ limitsAt (m .head)) (d : Derives (modulus l) (unmarkedIf (t .flags .over) (stored (m .places))) (wishesIn ps hs (h .neg) (h .pos) (h .lt)) y)
+    {before : List ℕ} {a : Answer} {p′ after : List ℕ} (w : Tells (m .head) (y .first) (y .second) (storedIn (y .store)) (m .places) t (y .sizes) before a p′ after)
+    (xs : List ℕ) (n : length xs ≡ 16) (is : serialsIn xs (y .sizes .before + y .sizes .after + y .sizes .long) ≡ membersOf (y .first) (y .sizes .before + y .sizes .after + y .sizes .long))
+    (behind : (i : ℕ) → y .sizes .before + y .sizes .after + y .sizes .long ≤ i → word xs i ≡ word (m .sets) i) where
+  abbrev x : Sizes
+  x = y .sizes
+
   abbrev s : Session
   s = sessionIn m
 
   abbrev fs : Fields
   fs = fieldsOf r
 
-  derived : Derives (modulus (limitsAt (m .head))) (unmarkedIf (t .flags .over) (stored (m .places))) (wishesIn ps hs (h .neg) (h .pos) (h .lt)) (m .places) (m .sets) p us vs x
-  derived = subst (λ (z : Limits). Derives (modulus z) (unmarkedIf (t .flags .over) (stored (m .places))) (wishesIn ps hs (h .neg) (h .pos) (h .lt)) (m .places) (m .sets) p us vs x) el d
+  derived : Derives (modulus (limitsAt (m .head))) (unmarkedIf (t .flags .over) (stored (m .places))) (wishesIn ps hs (h .neg) (h .pos) (h .lt)) y
+  derived = subst (λ (z : Limits). Derives (modulus z) (unmarkedIf (t .flags .over) (stored (m .places))) (wishesIn ps hs (h .neg) (h .pos) (h .lt)) y) el d
 
-  room-made : beforeDecoding (t .flags .over && not (flagOf (word (m .head) 2))) (t .flags .prior) (limitsAt (m .head)) (stored p) ≡ roomMade s fs
+  -- the pictures that step 4 marked
+  marked-is : storedIn (y .store) ≡ marksOf (modulus (limitsAt (m .head))) (unmarkedIf (t .flags .over) (stored (m .places))) (wishesIn ps hs (h .neg) (h .pos) (h .lt))
+  marked-is = let k : min (y .store .len) 16 ≡ y .store .len = omega (arith, d .few) in ap (front (y .store .places)) k ∙ derived .pics
+
+  room-made : beforeDecoding (t .flags .over && not (flagOf (word (m .head) 2))) (t .flags .prior) (limitsAt (m .head)) (storedIn (y .store)) ≡ roomMade s fs
   unfolding frontIn
-  room-made = room-is s r h t ps hs q (stored p) (derived .pics)
+  room-made = room-is s r h t ps hs q (storedIn (y .store)) marked-is
 
-  sets-held : HoldsSets us vs x (sets s fs)
+  sets-held : HoldsSets (y .first) (y .second) x (sets s fs)
   unfolding frontIn
-  sets-held = subst (HoldsSets us vs x) (sets-are s r h t ps hs q) (derived .sets)
+  sets-held = subst (HoldsSets (y .first) (y .second) x) (sets-are s r h t ps hs q) (derived .sets)
 
-  body-is : begunPart (toldFrom (word (m .head) 3) t) x us vs ++ tailBytes (beforeDecoding (t .flags .over && not (flagOf (word (m .head) 2))) (t .flags .prior) (limitsAt (m .head)) (stored p) .tail)
+  body-is : begunPart (toldFrom (word (m .head) 3) t) x (y .first) (y .second) ++ tailBytes (beforeDecoding (t .flags .over && not (flagOf (word (m .head) 2))) (t .flags .prior) (limitsAt (m .head)) (storedIn (y .store)) .tail)
       ≡ begunBytes (begunOf s fs) ++ tailBytes (roomMade s fs .tail)
   unfolding frontIn
   body-is = λ i. begun-bytes s r h t ps hs q x sets-held i ++ tailBytes (room-made i .tail)
@@ -267,16 +289,16 @@ module _ (m : Memory) (r : List ℕ) (h : Head) (t : Start) (ps : List ℤ) (hs 
         bytes = w .says .bytes ∙ (λ i. over (framed 258 0 (body-is i)) before);
       }
 
-  next-session : sessionOf (begunFront (frontIn (m .head)) (currentFrom (word (m .head) 3) h t) (refsFrom x) (cond (eqb (word (m .head) 3) 4294967295) 0 (word (m .head) 3 + 1))) us p′ ≡ begunSession s fs
+  next-session : sessionOf (begunFront (frontIn (m .head)) (currentFrom (word (m .head) 3) h t) (refsFrom x) (cond (eqb (word (m .head) 3) 4294967295) 0 (word (m .head) 3 + 1))) xs p′ ≡ begunSession s fs
   unfolding frontIn
   next-session =
       λ i.
       record {
         configured = s .configured;
         limits = s .limits;
-        store = (w .pics ∙ ap (λ (y : Moved). y .pics) room-made) i;
+        store = (w .pics ∙ ap (λ (z : Moved). z .pics) room-made) i;
         current = Now.Is (current-is s r h t ps hs q i);
-        refs = refs-held n sets-held i;
+        refs = refs-held xs n sets-held is i;
         prev = s .prev;
         atStart = false;
         ended = false;
@@ -290,12 +312,12 @@ module _ (m : Memory) (r : List ℕ) (h : Head) (t : Start) (ps : List ℤ) (hs 
   members-are-all : length (allRefs (begunSession s fs .refs)) ≡ x .before + x .after + x .long
   members-are-all = let b = sets-held .before in let c = sets-held .after in let l = sets-held .long in simp length-append (omega arith)
 
-  pub begun-does : {h′ : List ℕ} {c : Current} {y : Refs} {k : ℕ} → frontIn h′ ≡ begunFront (frontIn (m .head)) c y k
-      → ((f : Front) → m .head ≡ headWords f → h′ ≡ headWords (begunFront f c y k)) → c ≡ currentFrom (word (m .head) 3) h t → y ≡ refsFrom x
-      → k ≡ cond (eqb (word (m .head) 3) 4294967295) 0 (word (m .head) 3 + 1) → Does m (beginOf s fs) before a (memory h′ us p′) after
+  pub begun-does : {h′ : List ℕ} {c : Current} {z : Refs} {k : ℕ} → frontIn h′ ≡ begunFront (frontIn (m .head)) c z k
+      → ((f : Front) → m .head ≡ headWords f → h′ ≡ headWords (begunFront f c z k)) → c ≡ currentFrom (word (m .head) 3) h t → z ≡ refsFrom x
+      → k ≡ cond (eqb (word (m .head) 3) 4294967295) 0 (word (m .head) 3 + 1) → Does m (beginOf s fs) before a (memory h′ xs p′) after
   unfolding frontIn
   begun-does e wh ec ey ek =
-      let n = ap (λ (f : Front). sessionOf f us p′) (e ∙ (λ i. begunFront (frontIn (m .head)) (ec i) (ey i) (ek i))) ∙ next-session in
+      let n = ap (λ (f : Front). sessionOf f xs p′) (e ∙ (λ i. begunFront (frontIn (m .head)) (ec i) (ey i) (ek i))) ∙ next-session in
       as-decided (inside s r (q .placed .passed) (q .within))
       (record {
         answers = answers-are;
@@ -305,9 +327,9 @@ module _ (m : Memory) (r : List ℕ) (h : Head) (t : Start) (ps : List ℤ) (hs 
             record {
               head = wh (frontOf s) (z .head)
                   ∙ (λ i. headWords (begunFront (frontOf s) ((ec ∙ current-is s r h t ps hs q) i) ((ey ∙ sizes-are) i) ((ek ∙ next-is s r h t ps hs q) i))) ∙ ap Laid.headOf (sym n);
-              places = w .normal (d .normal (z .places));
+              places = w .normal (z .places);
             };
-        run = λ i le. d .behind i (omega (arith, members-are-all));
+        run = λ i le. behind i (omega (arith, members-are-all));
       })
 
 -- ---- the stages' own facts

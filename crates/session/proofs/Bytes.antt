@@ -19,10 +19,11 @@ use Rattle.derivation.specs.declared.rows.RefList.{RefList}
 use Rattle.wire.proofs.Laws.{runs, head-last, sets-over}
 use Rattle.wire.proofs.Flat.{flat-append, length-flat}
 use Rattle.derivation.specs.Pad.{Padded, used}
+use Rattle.derivation.specs.Lists.{blankSerial}
 use Rattle.session.specs.declared.Refusal.{Refusal}
 use Rattle.session.specs.declared.Refusal.the-variants.{Unconfigured, BadLimits, Busy, NoCurrent, OutOfRange, Outside, SurfaceHeld, SerialsSpent, StoreFull, NoCandidate, TooMany, BadEntry, Malformed, NoRoom}
 use Rattle.store.specs.declared.Sizes.{Sizes}
-use Rattle.store.specs.declared.Tail.{Tail}
+use Rattle.store.specs.declared.Moved.{Moved}
 use Rattle.session.specs.declared.writing.Told.{Told}
 use Rattle.session.specs.Numbered.{numberOf}
 use Rattle.session.specs.Said.{Says, Refuses}
@@ -106,9 +107,9 @@ unfolding words
 words-join f xs ys = ap words (map-append f xs ys) ∙ flat-append bytes32 (map f xs) (map f ys)
 
 -- numbers of a run, from a place on
-pub length-numbers : (xs : List ℕ) (from n : ℕ) → length (words (numbersFrom xs from n)) ≡ 4 * n
+pub length-numbers : (xs : List Serial) (from n : ℕ) → length (words (numbersFrom xs from n)) ≡ 4 * n
 unfolding words
-length-numbers xs from n = length-entries bytes32 (λ (i : ℕ). getD xs (from + i) 0) 4 length-bytes32 n
+length-numbers xs from n = length-entries bytes32 (λ (i : ℕ). getD xs (from + i) blankSerial .0) 4 length-bytes32 n
 
 -- the first elements of a list, as a table, and their numbers
 pub take-table : {A : Type 0} (d : A) (xs : List A) (n : ℕ) → n ≤ length xs → take n xs ≡ table (λ (i : ℕ). getD xs i d) n
@@ -151,10 +152,10 @@ refused-says kind why d e w h =
     record { answer = rw (e, w .0); bytes = rw e at (w .1 ∙ sets-over (bytes16 2 ++ bytes16 kind ++ bytes16 _) d h) }
 
 -- a tail by its runs, and its room
-module _ (x : Tail) (g : GoodTail x) where
-  pub tail-is : tailBytes (tailIn x) ≡ (x .handed .len ∷ flat shownBytes (take (x .handed .len) (x .handed .items)))
-      ++ (x .thrown .len ∷ words (serialNos (take (x .thrown .len) (x .thrown .items))))
-      ++ (x .released .len ∷ words (surfaceNos (take (x .released .len) (x .released .items))))
+module _ (x : Moved) (g : GoodTail x) where
+  pub tail-is : tailBytes (tailIn x) ≡ (x .shown ∷ flat shownBytes (take (x .shown) (x .handed)))
+      ++ (x .dropped ∷ words (serialNos (take (x .dropped) (x .thrown))))
+      ++ (x .freed ∷ words (surfaceNos (take (x .freed) (x .released))))
   unfolding tailBytes used
   tail-is = rw (sym (g .handed .long), sym (g .thrown .long), sym (g .released .long))
 
@@ -167,7 +168,7 @@ module _ (x : Tail) (g : GoodTail x) where
       omega (arith, simp length-append at e, held-entries (g .handed) shownBytes 12 length-shown, held-words (g .thrown) (λ (s : Serial). s .0), held-words (g .released) (λ (s : Surface). s .0))
 
 -- the room of the members of the sets
-pub members-room : (x : Sizes) (us vs : List ℕ) → FewMembers x → length (memberBytes x us vs) ≤ 64
+pub members-room : (x : Sizes) (us vs : List Serial) → FewMembers x → length (memberBytes x us vs) ≤ 64
 members-room x us vs f =
     let n = x .before + x .after in
     let a = length-numbers us 0 n in

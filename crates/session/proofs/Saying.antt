@@ -5,6 +5,8 @@ use mathlib.Core.List.{List}
 use mathlib.Core.Bool.{Bool, true, false, _&&_}
 use lib.Dec.{leb}
 use lib.ListN.{length}
+use lib.Seq.{take-all}
+use native.Mathlib.Omega.{arith}
 use Rattle.paper.specs.declared.Picture.{Picture}
 use Rattle.paper.specs.declared.Limits.{Limits}
 use Rattle.paper.specs.declared.Prev.{Prev}
@@ -15,18 +17,20 @@ use Rattle.paper.specs.declared.Now.the-variants as Now
 use Rattle.paper.specs.State.{isCurrent, onNow, taken16}
 use Rattle.paper.specs.State as P
 use Rattle.paper.specs.Ranges.{configureRanges}
-use Rattle.paper.specs.Output.{Tail, Moved, quiet}
+use Rattle.paper.specs.Output.{Tail, Moved, quiet, emptied}
 use Rattle.paper.specs.Calls.{full, finished, drained, dropped, discarded, prevAfter, idleWith, drainedNow, configuredSession, endedSession}
 use Rattle.paper.specs.Replies.{tailBytes, framed, bytesOf}
 use Rattle.paper.specs.Step.{Decided, refused, accepted, configureOf, finishOf, drainOf, discardOf, endOf, abandonOf}
 use Rattle.paper.proofs.Fits.{spare}
 use Rattle.derivation.specs.Lists.{refsIn}
 use Rattle.session.specs.declared.Answer.{Answer}
-use Rattle.store.specs.declared.Tail as Store
+use Rattle.store.specs.declared.Moved as Store
 use Rattle.store.specs.Shelf.{word, stored, NormalForm}
 use Rattle.store.specs.Tails.{HoldsTail, tailIn}
+use Rattle.store.specs.Places.{roomy}
 use Rattle.store.specs.Bumps.{Leaves}
 use Rattle.derivation.proofs.Pad.{is-view}
+use Rattle.store.proofs.Ends.{drain-idle}
 use Rattle.session.specs.View.{Memory, memory, Front, sessionIn, sessionOf, frontIn, idleFront, configuredFront, endedFront, limitsAt, nowAt, prevAt}
 use Rattle.session.specs.Laid.{frontOf, headWords, headOf, NormalMemory}
 use Rattle.session.specs.Said.{Says, Refuses, Does, Idles, Drained}
@@ -34,8 +38,13 @@ use Rattle.session.proofs.Ways.{finish-idle, finish-now, finish-full, f
 
 -- ---- a tail by value
 
-pub tail-held : {x : Store.Tail} {y : Tail} → HoldsTail x y → tailIn x ≡ y
+pub tail-held : {x : Store.Moved} {y : Tail} → HoldsTail x y → tailIn x ≡ y
 tail-held h = λ i. record { handed = is-view (h .handed) i; thrown = is-view (h .thrown) i; released = is-view (h .released) i }
+
+-- ---- a store with room for one more
+
+pub roomy-all : (ps : List Picture) → length ps < 16 → roomy ps ≡ ps
+roomy-all ps lt = take-all 15 ps (omega arith)
 
 -- ---- what is done, by another name
 
@@ -67,17 +76,29 @@ accepted-does x k t e h w f s =
 pub idles : {h h′ : List ℕ} {q : Prev} → (frontIn h′ ≡ idleFront (frontIn h) q) × ((f : Front) → h ≡ headWords f → h′ ≡ headWords (idleFront f q)) → Idles h h′ q
 idles e = record { front = e .0; words = e .1 }
 
--- a drain that nothing refuses
-pub drained-is : (h t : List ℕ) {before : List ℕ} {a : Answer} {after : List ℕ} {kind : ℕ} {l : Limits} {x : Now} {q p : Prev} {h′ t′ : List ℕ} {r : Store.Tail} → l ≡ limitsAt h → x ≡ nowAt h → q ≡ prevAt h → p ≡ onNow x q (prevAfter q)
-    → Leaves (drained l (stored t) x) t t′ r → Idles h h′ p → Says (framed kind 0 (tailBytes (tailIn r))) before a after
-    → Drained h t kind before a h′ t′ after
-drained-is h t {kind = kind} {l} {x} {q} {p} {h′} {t′} {r} el ex eq ep w i s =
-    let y = subst (λ (n : Now). Leaves (drained (limitsAt h) (stored t) n) t t′ r) ex (subst (λ (z : Limits). Leaves (drained z (stored t) x) t t′ r) el w) in
+-- a drain that nothing refuses: of a session with no current picture, and of one with room for it
+pub drained-idle : (h t : List ℕ) {before : List ℕ} {a : Answer} {after : List ℕ} {kind : ℕ} {q : Prev} {h′ t′ : List ℕ} {r : Store.Moved} → nowAt h ≡ Now.Idle → q ≡ prevAt h
+    → Leaves (emptied (stored t)) t t′ r → Idles h h′ q → Says (framed kind 0 (tailBytes (tailIn r))) before a after → Drained h t kind before a h′ t′ after
+drained-idle h t {kind = kind} {q} {h′} {t′} {r} en eq w i s =
+    let y = subst (λ (n : Now). Leaves (drained (limitsAt h) (stored t) n) t t′ r) (sym en) (subst (λ (x : Moved). Leaves x t t′ r) (sym (drain-idle (stored t) (limitsAt h))) w) in
     record {
       says = says-as kind (tail-held (y .tail)) s;
       pics = y .pics;
       normal = y .normal;
-      head = subst (Idles h h′) (ep ∙ ap (λ (n : Now). onNow n q (prevAfter q)) ex ∙ ap (λ (z : Prev). onNow (nowAt h) z (prevAfter z)) eq) i;
+      head = subst (Idles h h′) (eq ∙ ap (λ (n : Now). onNow n (prevAt h) (prevAfter (prevAt h))) (sym en)) i;
+    }
+
+pub drained-now : (h t : List ℕ) (c : Current) {before : List ℕ} {a : Answer} {after : List ℕ} {kind : ℕ} {l : Limits} {q p : Prev} {h′ t′ : List ℕ} {r : Store.Moved} → nowAt h ≡ Now.Is c
+    → length (stored t) < 16 → l ≡ limitsAt h → q ≡ prevAt h → p ≡ prevAfter q c → Leaves (drained l (roomy (stored t)) (Now.Is c)) t t′ r → Idles h h′ p
+    → Says (framed kind 0 (tailBytes (tailIn r))) before a after → Drained h t kind before a h′ t′ after
+drained-now h t c {kind = kind} {l} {q} {p} {h′} {t′} {r} en room el eq ep w i s =
+    let z = subst (λ (ps : List Picture). Leaves (drained l ps (Now.Is c)) t t′ r) (roomy-all (stored t) room) w in
+    let y = subst (λ (n : Now). Leaves (drained (limitsAt h) (stored t) n) t t′ r) (sym en) (subst (λ (x : Limits). Leaves (drained x (stored t) (Now.Is c)) t t′ r) el z) in
+    record {
+      says = says-as kind (tail-held (y .tail)) s;
+      pics = y .pics;
+      normal = y .normal;
+      head = subst (Idles h h′) (ep ∙ ap (λ (x : Prev). prevAfter x c) eq ∙ ap (λ (n : Now). onNow n (prevAt h) (prevAfter (prevAt h))) (sym en)) i;
     }
 
 -- ---- a call on the words h beside the store, xs of the sets and t of the store
@@ -125,12 +146,13 @@ module _ (h xs t : List ℕ) where
     unfolding frontIn
     finish-9 c e f r = does-refuse (finish-now v c e ∙ finish-full v c f) r
 
-    pub finish-does : (c : Current) {l : Limits} {q p : Prev} {h′ t′ : List ℕ} {r : Store.Tail} → nowAt h ≡ Now.Is c → full v ≡ false → l ≡ limitsAt h → q ≡ prevAt h → p ≡ prevAfter q c
-        → Leaves (finished l (stored t) c) t t′ r → Idles h h′ p → Says (framed 260 0 (tailBytes (tailIn r))) before a after
+    pub finish-does : (c : Current) {l : Limits} {q p : Prev} {h′ t′ : List ℕ} {r : Store.Moved} → nowAt h ≡ Now.Is c → full v ≡ false → l ≡ limitsAt h → q ≡ prevAt h → p ≡ prevAfter q c
+        → Leaves (finished l (roomy (stored t)) c) t t′ r → Idles h h′ p → Says (framed 260 0 (tailBytes (tailIn r))) before a after
         → Does m (finishOf v) before a (memory h′ xs t′) after
     unfolding frontIn
     finish-does c {l} {q} {p} {h′} {t′} {r} e f el eq ep w i s =
-        let x = subst (λ (y : Limits). Leaves (finished y (stored t) c) t t′ r) el w in
+        let z = subst (λ (ps : List Picture). Leaves (finished l ps c) t t′ r) (roomy-all (stored t) (spare v f)) w in
+        let x = subst (λ (y : Limits). Leaves (finished y (stored t) c) t t′ r) el z in
         as-decided (finish-now v c e ∙ finish-room v c f)
         (idle-does 4 (finished (limitsAt h) (stored t) c) (prevAfter (prevAt h) c) (subst (Idles h h′) (ep ∙ ap (λ (y : Prev). prevAfter y c) eq) i) (x .pics) (says-as 260 (tail-held (x .tail)) s) (x .normal))
 
@@ -165,7 +187,7 @@ module _ (h xs t : List ℕ) where
         (λ z. w3 g (i2 .words (idleFront (frontOf v) q) (d .head .words (frontOf v) (z .head))) ∙ ap (λ (x : Limits). headWords (configuredFront g x)) en) (d .normal) refl)
 
     -- discard
-    pub discard-does : {x : Now} {q : Prev} {h′ t′ : List ℕ} {r : Store.Tail} → x ≡ nowAt h → q ≡ prevAt h → Leaves (discarded (stored t) x) t t′ r → Idles h h′ q
+    pub discard-does : {x : Now} {q : Prev} {h′ t′ : List ℕ} {r : Store.Moved} → x ≡ nowAt h → q ≡ prevAt h → Leaves (discarded (stored t) x) t t′ r → Idles h h′ q
         → Says (framed 262 0 (tailBytes (tailIn r))) before a after → Does m (discardOf v) before a (memory h′ xs t′) after
     unfolding frontIn
     discard-does {x} {q} {h′} {t′} {r} ex eq w i s =
@@ -182,7 +204,7 @@ module _ (h xs t : List ℕ) where
     unfolding frontIn
     abandon-4 e r = does-refuse (abandon-idle v e) r
 
-    pub abandon-does : (c : Current) {q : Prev} {h′ : List ℕ} {y : Store.Tail} → nowAt h ≡ Now.Is c → q ≡ prevAt h → HoldsTail y (dropped c) → Idles h h′ q
+    pub abandon-does : (c : Current) {q : Prev} {h′ : List ℕ} {y : Store.Moved} → nowAt h ≡ Now.Is c → q ≡ prevAt h → HoldsTail y (dropped c) → Idles h h′ q
         → Says (framed 264 0 (tailBytes (tailIn y))) before a after → Does m (abandonOf v) before a (memory h′ xs t) after
     unfolding frontIn
     abandon-does c {h′ = h′} e eq d i s =

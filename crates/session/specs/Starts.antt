@@ -8,6 +8,8 @@ use lib.Dec.{eqb}
 use Rattle.paper.specs.declared.Prev.{Prev}
 use Rattle.paper.specs.declared.Prev.the-variants as Prev
 use Rattle.paper.specs.declared.Current.{Current}
+use Rattle.paper.specs.declared.Serial.{Serial}
+use Rattle.paper.specs.declared.Picture.{Picture}
 use Rattle.paper.specs.Words.{anyB}
 use Rattle.paper.specs.Numbers.{bit, flagAt, missing, aSerial}
 use Rattle.paper.specs.State.{isCurrent, modulus}
@@ -86,8 +88,8 @@ pub record Wished (s : Session) (r : List ℕ) (h : Head) (t : Start) (ps : List
   pub few : h .neg + h .pos + h .lt ≤ 16
   pub wishes : wishesIn ps hs (h .neg) (h .pos) (h .lt) ≡ wishes s (fieldsOf r)
 
--- step 5 and the reply, where the two runs of the sets are us and vs
-pub record Tells (h us vs p : List ℕ) (t : Start) (x : Sizes) (before : List ℕ) (a : Answer) (p′ after : List ℕ) : Type 0 where
-  pub pics : stored p′ ≡ beforeDecoding (t .flags .over && not (flagOf (word h 2))) (t .flags .prior) (limitsAt h) (stored p) .pics
+-- step 5 of the pictures that step 4 marked, and the reply, where the two runs of the sets are us and vs
+pub record Tells (h : List ℕ) (us vs : List Serial) (ps : List Picture) (p : List ℕ) (t : Start) (x : Sizes) (before : List ℕ) (a : Answer) (p′ after : List ℕ) : Type 0 where
+  pub pics : stored p′ ≡ beforeDecoding (t .flags .over && not (flagOf (word h 2))) (t .flags .prior) (limitsAt h) ps .pics
   pub normal : NormalForm p → NormalForm p′
-  pub says : Says (framed 258 0 (begunPart (toldFrom (word h 3) t) x us vs ++ tailBytes (beforeDecoding (t .flags .over && not (flagOf (word h 2))) (t .flags .prior) (limitsAt h) (stored p) .tail))) before a after
+  pub says : Says (framed 258 0 (begunPart (toldFrom (word h 3) t) x us vs ++ tailBytes (beforeDecoding (t .flags .over && not (flagOf (word h 2))) (t .flags .prior) (limitsAt h) ps .tail))) before a after

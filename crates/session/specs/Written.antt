@@ -8,7 +8,7 @@ use Rattle.paper.specs.Numbers.{bytes32, signed32}
 use Rattle.paper.specs.Replies.{words}
 use Rattle.derivation.specs.Pad.{used}
 use Rattle.derivation.specs.declared.rows.RefList.{RefList}
-use Rattle.derivation.specs.Lists.{HoldsList}
+use Rattle.derivation.specs.Lists.{HoldsList, blankSerial}
 use Rattle.store.specs.declared.Sizes.{Sizes}
 use Rattle.session.specs.declared.writing.Told.{Told}
 
@@ -23,17 +23,17 @@ abbrev pub sizesBytes : Sizes → List ℕ
 sizesBytes x = x .before ∷ x .after ∷ x .foll ∷ x .long ∷ x .«lt_foll» ∷ []
 
 -- n numbers of a run, from a place on
-abbrev pub numbersFrom : List ℕ → ℕ → ℕ → List ℕ
-numbersFrom xs from n = table (λ (i : ℕ). getD xs (from + i) 0) n
+abbrev pub numbersFrom : List Serial → ℕ → ℕ → List ℕ
+numbersFrom xs from n = table (λ (i : ℕ). getD xs (from + i) blankSerial .0) n
 
-abbrev pub memberBytes : Sizes → List ℕ → List ℕ → List ℕ
+abbrev pub memberBytes : Sizes → List Serial → List Serial → List ℕ
 memberBytes x us vs =
     words (numbersFrom us 0 (x .before + x .after))
     ++ words (numbersFrom vs 0 (x .foll))
     ++ words (numbersFrom us (x .before + x .after) (x .long))
     ++ words (numbersFrom vs (x .foll) (x .«lt_foll»))
 
-abbrev pub begunPart : Told → Sizes → List ℕ → List ℕ → List ℕ
+abbrev pub begunPart : Told → Sizes → List Serial → List Serial → List ℕ
 begunPart t x us vs = toldBytes t ++ sizesBytes x ++ memberBytes x us vs
 
 -- the serials of a list

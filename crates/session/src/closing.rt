@@ -7,17 +7,20 @@ use crate::reading;
 use crate::writing;
 use derivation::ranges;
 use paper::Current;
+use paper::Limits;
 use paper::Now;
 use paper::Prev;
+use store::Room;
 use store::Store;
 ghost use mathlib.Core.Path.{_≡_};
 ghost use mathlib.Core.Bool.{true, _&&_};
 ghost use mathlib.Core.List.{List};
+ghost use lib.Dec.{leb};
 ghost use lib.ListN.{length};
-ghost use Prim.Native.Nat.{ℕ, _<_};
+ghost use Prim.Native.Nat.{ℕ, _<_, min};
 ghost use Rattle.paper.specs.Records.{limitsOf};
-ghost use Rattle.paper.specs.State.{isCurrent, onNow};
-ghost use Rattle.paper.specs.declared.Now.the-variants.{Is};
+ghost use Rattle.paper.specs.State.{isCurrent};
+ghost use Rattle.paper.specs.declared.Now.the-variants.{Idle, Is};
 ghost use Rattle.paper.specs.Calls.{prevAfter, full};
 ghost use Rattle.paper.specs.Step.{configureOf, finishOf, drainOf, discardOf, endOf, abandonOf};
 ghost use Rattle.store.specs.Shelf.{stored};
@@ -37,13 +40,13 @@ fn prev_after(q: Prev, c: Current) -> Prev
     q
 }
 
-// The previous Tid0 picture after a current one, if there is one, is finished.
-fn prev_now(q: Prev, x: Now) -> Prev
-    ensures { λ r. ⌜ r ≡ onNow x q (prevAfter q) ⌝ }
+// Whether no picture more may be stored.
+fn is_full(places: &[u32; Store::WORDS], l: Limits) -> bool
+    ensures { λ r. ⌜ r ≡ leb (min (l .capacity) 16) (length (stored (now (places .entry)))) ⌝ }
 {
-    match x {
-        Now::Idle => q,
-        Now::Is(c) => prev_after(q, c),
+    match store::room_in(places, l) {
+        Room::Full => true,
+        Room::Enough => false,
     }
 }
 
@@ -58,13 +61,13 @@ fn finish_at(
     ensures { λ r. ⌜ ((xs : List ℕ) → Does (memory (now (head .entry)) xs (now (places .entry))) (finishOf (sessionIn (memory (now (head .entry)) xs (now (places .entry))))) (now (reply .entry)) r (memory (now (head .exit)) xs (now (places .exit))) (now (reply .exit))) ⌝ }
 {
     let l = heads::limits_in(head);
-    if store::is_full(places, l) {
+    if is_full(places, l) {
         return writing::refuse(reply, 260, Refusal::StoreFull);
     }
-    let r = store::finish_picture(places, c, l);
+    let m = store::finish_picture(places, c, l);
     let q = heads::prev_in(head);
     heads::put_idle(head, prev_after(q, c));
-    writing::put_done(reply, 260, r)
+    writing::put_done(reply, 260, m)
 }
 
 // Finish (C.5.2.3).
@@ -87,10 +90,44 @@ fn is_stuck(head: &[u32; HEAD], places: &[u32; Store::WORDS]) -> bool
     ensures { λ r. ⌜ ((xs : List ℕ) → r ≡ (isCurrent (nowAt (now (head .entry))) && full (sessionIn (memory (now (head .entry)) xs (now (places .entry)))))) ⌝ }
 {
     let l = heads::limits_in(head);
-    heads::is_busy(head) & store::is_full(places, l)
+    heads::is_busy(head) & is_full(places, l)
+}
+
+// With no picture current: the store is emptied, with the reply of kind `kind`.
+fn drain_idle(
+    head: &mut [u32; HEAD],
+    places: &mut [u32; Store::WORDS],
+    kind: u16,
+    reply: &mut [u8],
+) -> Answer
+    requires { ⌜ (nowAt (now head) ≡ Idle) × Roomy (now reply) ⌝ }
+    ensures { λ r. ⌜ Drained (now (head .entry)) (now (places .entry)) kind (now (reply .entry)) r (now (head .exit)) (now (places .exit)) (now (reply .exit)) ⌝ }
+{
+    let m = store::drain(places);
+    let q = heads::prev_in(head);
+    heads::put_idle(head, q);
+    writing::put_done(reply, kind, m)
 }
 
 // A current picture is finished under the old limits and the store emptied, with the reply of kind `kind`.
+fn drain_current(
+    head: &mut [u32; HEAD],
+    places: &mut [u32; Store::WORDS],
+    c: Current,
+    kind: u16,
+    reply: &mut [u8],
+) -> Answer
+    requires { ⌜ (nowAt (now head) ≡ Is c) × (length (stored (now places)) < 16) × Roomy (now reply) ⌝ }
+    ensures { λ r. ⌜ Drained (now (head .entry)) (now (places .entry)) kind (now (reply .entry)) r (now (head .exit)) (now (places .exit)) (now (reply .exit)) ⌝ }
+{
+    let l = heads::limits_in(head);
+    let m = store::finish_and_drain(places, c, l);
+    let q = heads::prev_in(head);
+    heads::put_idle(head, prev_after(q, c));
+    writing::put_done(reply, kind, m)
+}
+
+// A drain that nothing refuses, with the reply of kind `kind`.
 fn drain_as(
     head: &mut [u32; HEAD],
     places: &mut [u32; Store::WORDS],
@@ -100,12 +137,10 @@ fn drain_as(
     requires { ⌜ (isCurrent (nowAt (now head)) ≡ true → length (stored (now places)) < 16) × Roomy (now reply) ⌝ }
     ensures { λ r. ⌜ Drained (now (head .entry)) (now (places .entry)) kind (now (reply .entry)) r (now (head .exit)) (now (places .exit)) (now (reply .exit)) ⌝ }
 {
-    let l = heads::limits_in(head);
-    let x = heads::now_in(head);
-    let q = heads::prev_in(head);
-    let r = store::drain(places, x, l);
-    heads::put_idle(head, prev_now(q, x));
-    writing::put_done(reply, kind, r)
+    match heads::now_in(head) {
+        Now::Idle => drain_idle(head, places, kind, reply),
+        Now::Is(c) => drain_current(head, places, c, kind, reply),
+    }
 }
 
 // "Drain finishes a current picture, then empties."
@@ -157,9 +192,9 @@ pub(crate) fn discard(
 {
     let x = heads::now_in(head);
     let q = heads::prev_in(head);
-    let r = store::discard(places, x);
+    let m = store::discard(places, x);
     heads::put_idle(head, q);
-    writing::put_done(reply, 262, r)
+    writing::put_done(reply, 262, m)
 }
 
 // End of sequence: the next begin is first after it.
@@ -176,10 +211,10 @@ fn abandon_at(head: &mut [u32; HEAD], c: Current, reply: &mut [u8]) -> Answer
     requires { ⌜ (nowAt (now head) ≡ Is c) × Roomy (now reply) ⌝ }
     ensures { λ r. ⌜ ((xs t : List ℕ) → Does (memory (now (head .entry)) xs t) (abandonOf (sessionIn (memory (now (head .entry)) xs t))) (now (reply .entry)) r (memory (now (head .exit)) xs t) (now (reply .exit))) ⌝ }
 {
-    let r = store::drop_current(c);
+    let m = store::abandon(c);
     let q = heads::prev_in(head);
     heads::put_idle(head, q);
-    writing::put_done(reply, 264, r)
+    writing::put_done(reply, 264, m)
 }
 
 // "Abandon throws away and releases the current picture; marks and outputs of its begin stay."

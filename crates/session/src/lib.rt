@@ -75,11 +75,9 @@ pub fn fresh(
     ensures normal { λ _. ⌜ NormalMemory (memory (now (head .exit)) (now (sets .exit)) (now (places .exit))) ⌝ }
     ensures blank { λ _. ⌜ now (sets .exit) ≡ replicate 16 0 ⌝ }
 {
-    let store = Store::empty();
     heads::put_fresh(head);
     *sets = [0; Store::CAPACITY];
-    let words = store.words;
-    *places = words;
+    store::forget_all(places);
 }
 
 // One call: "14, 13, then" what the record's kind says.

@@ -21,13 +21,12 @@ ghost use mathlib.Core.Path.{_≡_};
 ghost use mathlib.Core.Bool.{cond};
 ghost use Prim.Native.Nat.{_+_};
 ghost use lib.Dec.{eqb};
-ghost use lib.ListN.{length};
 ghost use Rattle.paper.specs.Records.{fieldsOf};
 ghost use Rattle.paper.specs.Step.{beginOf};
 ghost use Rattle.session.specs.View.{memory, sessionIn};
 ghost use Rattle.session.specs.Said.{Does, Roomy};
 ghost use Rattle.session.specs.Written.{FewMembers};
-ghost use Rattle.session.specs.Starts.{flagsFrom, flagsNumber, prevFrom, currentFrom, toldFrom, refsFrom, Passed, Placed, Wished, Tells};
+ghost use Rattle.session.specs.Starts.{flagsFrom, flagsNumber, prevFrom, currentFrom, toldFrom, refsFrom, Passed, Placed, Wished};
 
 // Step 1's flags; `over`: IRAP with NoRaslOutputFlag.
 pub(crate) struct Flags {
@@ -131,34 +130,6 @@ fn refs_of(x: Sizes) -> Refs
     }
 }
 
-// How many words a run has. The type says so of what is lent, and a proof is told it here.
-fn count_run(words: [u32; Store::CAPACITY]) -> usize
-    ensures { λ r. ⌜ (r ≡ 16) × (length words ≡ 16) ⌝ }
-{
-    Store::CAPACITY
-}
-
-// Step 5 of a begin that nothing refuses, and its reply.
-fn tell_begun(
-    head: &[u32; HEAD],
-    us: &[u32; Store::CAPACITY],
-    vs: &[u32; Store::CAPACITY],
-    places: &mut [u32; Store::WORDS],
-    t: Start,
-    x: Sizes,
-    reply: &mut [u8],
-) -> Answer
-    requires { ⌜ FewMembers x × Roomy (now reply) ⌝ }
-    ensures { λ r. ⌜ Tells (now (head .entry)) (now (us .entry)) (now (vs .entry)) (now (places .entry)) t x (now (reply .entry)) r (now (places .exit)) (now (reply .exit)) ⌝ }
-{
-    let l = heads::limits_in(head);
-    let f = t.flags;
-    let starts = f.over & !heads::is_ended(head);
-    let c = store::update_dpb_before_decoding(places, starts, f.prior, l);
-    let told = told_of(heads::next_serial(head), t);
-    writing::put_begun(reply, told, x, us, vs, c)
-}
-
 // Steps 4 and 5 of a begin that nothing refuses, its reply and the session after it.
 fn begun(
     head: &mut [u32; HEAD],
@@ -180,11 +151,16 @@ fn begun(
     let neg = h.neg as usize;
     let pos = h.pos as usize;
     let lt = h.lt as usize;
-    let mut vs = [0u32; Store::CAPACITY];
-    let x = store::derive_and_mark_rps(places, l.k, over, pocs, hows, neg, pos, lt, run, &mut vs);
-    count_run(*run);
-    let a = tell_begun(head, run, &vs, places, t, x, reply);
+    let d = store::derive_and_mark_rps(places, l.k, over, pocs, hows, neg, pos, lt);
+    let x = d.sizes;
+    let us = d.first;
+    let vs = d.second;
+    let marked = d.store;
+    let starts = over & !heads::is_ended(head);
+    let m = store::update_dpb_before_decoding(places, marked, starts, f.prior, l);
+    derivation::run::put_members(run, us, x.before + x.after + x.long);
     let next = heads::next_serial(head);
+    let a = writing::put_begun(reply, told_of(next, t), x, us, vs, m);
     heads::put_begun(head, current_of(next, h, t), refs_of(x), next_after(next.0));
     a
 }

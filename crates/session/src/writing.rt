@@ -5,12 +5,11 @@ use crate::number;
 use derivation::rows::RefList;
 use paper::Serial;
 use paper::Shown;
-use paper::Surface;
+use store::Moved;
 use store::Sizes;
 use store::Store;
-use store::Tail;
 ghost use mathlib.Core.Path.{_≡_};
-ghost use mathlib.Core.List.{_++_};
+ghost use mathlib.Core.List.{_∷_, _++_};
 ghost use Prim.Native.Nat.{_+_, _*_, _≤_};
 ghost use lib.ListN.{length, take};
 ghost use lib.Seq.{sets};
@@ -56,56 +55,63 @@ fn put_shown(d: &mut [u8], at: usize, p: Shown) -> usize
     wire::put_u32(d, b, wire::bits(p.poc))
 }
 
-// The first n pictures handed out, one after the other.
-fn put_handed(d: &mut [u8], at: usize, xs: [Shown; Store::CAPACITY], n: usize) -> usize
-    requires { ⌜ (n ≤ 16) × (at + 12 * n ≤ length (now d)) ⌝ }
-    ensures { λ r. ⌜ (r ≡ at + 12 * n) × (now (d .exit) ≡ sets (now (d .entry)) at (flat shownBytes (take n xs))) ⌝ }
+// "u8 count and (serial u32, surface u32, POC i32) of each picture handed out".
+fn put_handed(d: &mut [u8], at: usize, m: Moved) -> usize
+    requires { ⌜ GoodTail m × (at + 1 + 12 * m .shown ≤ length (now d)) ⌝ }
+    ensures { λ r. ⌜ (r ≡ at + (1 + 12 * m .shown)) × (now (d .exit) ≡ sets (now (d .entry)) at (m .shown ∷ flat shownBytes (take (m .shown) (m .handed)))) ⌝ }
 {
+    let n = m.shown;
+    let a = wire::put_u8(d, at, n as u8);
     let mut i = 0;
     while i < n {
-        let p = xs[i];
-        put_shown(d, at + 12 * i, p);
+        let p = m.handed[i];
+        put_shown(d, a + 12 * i, p);
         i += 1;
     }
-    at + 12 * n
+    a + 12 * n
 }
 
-// The first n serials thrown away, one after the other.
-fn put_thrown(d: &mut [u8], at: usize, xs: [Serial; Store::TAIL], n: usize) -> usize
-    requires { ⌜ (n ≤ 17) × (at + 4 * n ≤ length (now d)) ⌝ }
-    ensures { λ r. ⌜ (r ≡ at + 4 * n) × (now (d .exit) ≡ sets (now (d .entry)) at (words (serialNos (take n xs)))) ⌝ }
+// "u8 count and serials thrown away".
+fn put_thrown(d: &mut [u8], at: usize, m: Moved) -> usize
+    requires { ⌜ GoodTail m × (at + 1 + 4 * m .dropped ≤ length (now d)) ⌝ }
+    ensures { λ r. ⌜ (r ≡ at + (1 + 4 * m .dropped)) × (now (d .exit) ≡ sets (now (d .entry)) at (m .dropped ∷ words (serialNos (take (m .dropped) (m .thrown))))) ⌝ }
 {
+    let n = m.dropped;
+    let a = wire::put_u8(d, at, n as u8);
     let mut i = 0;
     while i < n {
-        let x = xs[i];
-        wire::put_u32(d, at + 4 * i, x.0);
+        let x = m.thrown[i];
+        wire::put_u32(d, a + 4 * i, x.0);
         i += 1;
     }
-    at + 4 * n
+    a + 4 * n
 }
 
-// The first n surfaces released, one after the other.
-fn put_released(d: &mut [u8], at: usize, xs: [Surface; Store::TAIL], n: usize) -> usize
-    requires { ⌜ (n ≤ 17) × (at + 4 * n ≤ length (now d)) ⌝ }
-    ensures { λ r. ⌜ (r ≡ at + 4 * n) × (now (d .exit) ≡ sets (now (d .entry)) at (words (surfaceNos (take n xs)))) ⌝ }
+// "u8 count and surfaces released".
+fn put_released(d: &mut [u8], at: usize, m: Moved) -> usize
+    requires { ⌜ GoodTail m × (at + 1 + 4 * m .freed ≤ length (now d)) ⌝ }
+    ensures { λ r. ⌜ (r ≡ at + (1 + 4 * m .freed)) × (now (d .exit) ≡ sets (now (d .entry)) at (m .freed ∷ words (surfaceNos (take (m .freed) (m .released))))) ⌝ }
 {
+    let n = m.freed;
+    let a = wire::put_u8(d, at, n as u8);
     let mut i = 0;
     while i < n {
-        let x = xs[i];
-        wire::put_u32(d, at + 4 * i, x.0);
+        let x = m.released[i];
+        wire::put_u32(d, a + 4 * i, x.0);
         i += 1;
     }
-    at + 4 * n
+    a + 4 * n
 }
 
 // n serials of a run, from a place on, one after the other.
-fn put_run(d: &mut [u8], at: usize, xs: &[u32; Store::CAPACITY], from: usize, n: usize) -> usize
+fn put_run(d: &mut [u8], at: usize, xs: [Serial; Store::CAPACITY], from: usize, n: usize) -> usize
     requires { ⌜ (from + n ≤ 16) × (at + 4 * n ≤ length (now d)) ⌝ }
-    ensures { λ r. ⌜ (r ≡ at + 4 * n) × (now (d .exit) ≡ sets (now (d .entry)) at (words (numbersFrom (now (xs .entry)) from n))) ⌝ }
+    ensures { λ r. ⌜ (r ≡ at + 4 * n) × (now (d .exit) ≡ sets (now (d .entry)) at (words (numbersFrom xs from n))) ⌝ }
 {
     let mut i = 0;
     while i < n {
-        wire::put_u32(d, at + 4 * i, xs[from + i]);
+        let x = xs[from + i];
+        wire::put_u32(d, at + 4 * i, x.0);
         i += 1;
     }
     at + 4 * n
@@ -125,27 +131,18 @@ fn put_serials(d: &mut [u8], at: usize, xs: [Serial; Store::CAPACITY], n: usize)
     at + 4 * n
 }
 
-// A tail: "u8 count and .. each picture handed out; u8 count and serials thrown away; u8 count and surfaces released".
-fn put_tail(d: &mut [u8], at: usize, x: Tail) -> usize
-    requires { ⌜ GoodTail x × (at + 350 ≤ length (now d)) ⌝ }
-    ensures { λ r. ⌜ (r ≡ at + length (tailBytes (tailIn x))) × (now (d .exit) ≡ sets (now (d .entry)) at (tailBytes (tailIn x))) ⌝ }
+// A tail: what was handed out, thrown away and released.
+fn put_tail(d: &mut [u8], at: usize, m: Moved) -> usize
+    requires { ⌜ GoodTail m × (at + 350 ≤ length (now d)) ⌝ }
+    ensures { λ r. ⌜ (r ≡ at + length (tailBytes (tailIn m))) × (now (d .exit) ≡ sets (now (d .entry)) at (tailBytes (tailIn m))) ⌝ }
 {
-    let handed = x.handed;
-    let thrown = x.thrown;
-    let released = x.released;
-    let xs = handed.items;
-    let ys = thrown.items;
-    let zs = released.items;
-    let a = wire::put_u8(d, at, handed.len as u8);
-    let b = put_handed(d, a, xs, handed.len);
-    let c = wire::put_u8(d, b, thrown.len as u8);
-    let e = put_thrown(d, c, ys, thrown.len);
-    let f = wire::put_u8(d, e, released.len as u8);
-    put_released(d, f, zs, released.len)
+    let a = put_handed(d, at, m);
+    let b = put_thrown(d, a, m);
+    put_released(d, b, m)
 }
 
 // An accepted reply that holds the refusal number 0 and a tail, of reply kind `kind`.
-pub(crate) fn put_done(d: &mut [u8], kind: u16, x: Tail) -> Answer
+pub(crate) fn put_done(d: &mut [u8], kind: u16, x: Moved) -> Answer
     requires { ⌜ GoodTail x × Roomy (now d) ⌝ }
     ensures { λ r. ⌜ Says (framed kind 0 (tailBytes (tailIn x))) (now (d .entry)) r (now (d .exit)) ⌝ }
 {
@@ -218,11 +215,11 @@ fn put_members(
     d: &mut [u8],
     at: usize,
     x: Sizes,
-    us: &[u32; Store::CAPACITY],
-    vs: &[u32; Store::CAPACITY],
+    us: [Serial; Store::CAPACITY],
+    vs: [Serial; Store::CAPACITY],
 ) -> usize
     requires { ⌜ FewMembers x × (at + 64 ≤ length (now d)) ⌝ }
-    ensures { λ r. ⌜ (r ≡ at + length (memberBytes x (now (us .entry)) (now (vs .entry)))) × (now (d .exit) ≡ sets (now (d .entry)) at (memberBytes x (now (us .entry)) (now (vs .entry)))) ⌝ }
+    ensures { λ r. ⌜ (r ≡ at + length (memberBytes x us vs)) × (now (d .exit) ≡ sets (now (d .entry)) at (memberBytes x us vs)) ⌝ }
 {
     let n = x.before + x.after;
     let k = x.foll;
@@ -237,12 +234,12 @@ pub(crate) fn put_begun(
     d: &mut [u8],
     t: Told,
     x: Sizes,
-    us: &[u32; Store::CAPACITY],
-    vs: &[u32; Store::CAPACITY],
-    y: Tail,
+    us: [Serial; Store::CAPACITY],
+    vs: [Serial; Store::CAPACITY],
+    y: Moved,
 ) -> Answer
     requires { ⌜ FewMembers x × (GoodTail y × Roomy (now d)) ⌝ }
-    ensures { λ r. ⌜ Says (framed 258 0 (begunPart t x (now (us .entry)) (now (vs .entry)) ++ tailBytes (tailIn y))) (now (d .entry)) r (now (d .exit)) ⌝ }
+    ensures { λ r. ⌜ Says (framed 258 0 (begunPart t x us vs ++ tailBytes (tailIn y))) (now (d .entry)) r (now (d .exit)) ⌝ }
 {
     let a = put_told(d, 6, t);
     let b = put_sizes(d, a, x);

@@ -1,134 +1,139 @@
 -- A round: one picture handed out is one turn of the definition on the pictures themselves, and where none is due or none waits the turns that are left do nothing. Assumes nothing.
 use mathlib.Core.Path.{_≡_, refl, sym, ap, _∙_, subst}
 use mathlib.Core.Bool.{Bool, true, false, cond, not, _||_, or-false}
-use mathlib.Core.List.{List, [], _∷_, _++_, append-nil, map}
+use mathlib.Core.List.{List, [], _∷_, _++_, append-nil}
 use Prim.Native.Nat.{ℕ, _+_, _-_, _≤_, _<_}
 use native.Mathlib.Omega.{arith}
 use lib.ListN.{length, set, length-append}
-use lib.Dec.{eqb}
-use borrow.Author.Tests.{eqb-true, eqb-false}
+use lib.IntN.{ℤ}
+use borrow.Author.Tests.{lt-ltb}
 use Rattle.derivation.proofs.Pad.{is-view, is-push}
 use Rattle.paper.proofs.Bools.{not-both, by-case}
 use Rattle.paper.proofs.Fits.{table-length}
 use Rattle.paper.proofs.Quiet.{waitings, few-wait}
-use Rattle.paper.proofs.Sizes.{Shrinks, shrinks-hand, shrinks-still}
+use Rattle.paper.proofs.Sizes.{Shrinks, shrinks-hand, shrinks-still, shrinks-turns}
 use Rattle.paper.specs.Words.{keep}
 use Rattle.paper.specs.State.{isMarked}
-use Rattle.paper.specs.Output.{Moved, still, andThen, turns, handOut, leave, done, shown, due, dueLate, dueFull}
+use Rattle.paper.specs.Output.{Moved, still, andThen, turns, handOut, shown, due, dueLate, dueFull}
 use Rattle.paper.specs.declared.Shown.{Shown}
 use Rattle.paper.specs.declared.Surface.{Surface}
 use Rattle.paper.specs.declared.Picture.{Picture}
 use Rattle.paper.specs.declared.Limits.{Limits}
-use Rattle.store.specs.Walks.{other}
-use Rattle.store.specs.Shelf.{pictureAt, pictures, Tidy}
-use Rattle.store.specs.Tails.{HoldsHanded, HoldsReleased, GoodReleased, handedIn, releasedIn, movedIn, startedIn, waits, Gathers}
-use Rattle.store.specs.Bumps.{Scans, dueScan, alwaysBy, latencyBy, turnBy, turnsBy, handsOut, Bumps}
+use Rattle.store.specs.Places.{placeAt, front}
+use Rattle.store.specs.Tails.{HoldsHanded, HoldsThrown, HoldsReleased, GoodReleased, HoldsMoved, HoldsParts, handedIn, releasedIn, movedIn, startedIn, waits, Gathers}
+use Rattle.store.specs.Bumps.{Scans, foundIn, dueScan, dueNow, alwaysBy, latencyBy, turnBy, turnsBy, handsOut, withoutIt, Bumps}
 use Rattle.store.specs.declared.Handed.{Handed}
+use Rattle.store.specs.declared.Thrown.{Thrown}
 use Rattle.store.specs.declared.Released.{Released}
-use Rattle.store.specs.declared.bumping.Bumped.{Bumped}
+use Rattle.store.specs.declared.Moved as Store
+use Rattle.store.specs.declared.bumping.Lowest.{Lowest}
+use Rattle.store.specs.declared.bumping.Lowest.the-variants.{Nothing, At}
 use Rattle.store.specs.declared.bumping.Scan.{Scan}
+use Rattle.store.specs.declared.bumping.Turn.{Turn}
 use Rattle.store.specs.declared.bumping.Rule.{Rule}
 use Rattle.store.specs.declared.bumping.Rule.the-variants.{All, Due}
 use Rattle.store.proofs.Moves.{moves, turn-first, turn-more, turn-stuck, turn-last}
-use Rattle.store.proofs.Scans.{or-none}
+use Rattle.store.proofs.Scans.{scan-waits, scan-at}
 
 -- ---- what the places and the tail so far hold
 
-pub gathers-is : {t : List ℕ} {n : ℕ} {h : Handed} {x : Released} {m : Moved} → Gathers t n h x m → m ≡ movedIn t n h x
+gathers-is : {ps : List Picture} {n : ℕ} {h : Handed} {x : Released} {m : Moved} → Gathers ps n h x m → m ≡ movedIn ps n h x
 gathers-is g = moves (sym (g .pics)) (sym (is-view (g .handed))) (g .thrown) (sym (is-view (g .released)))
 
-pub gathers-good : {t : List ℕ} {n : ℕ} {h : Handed} {x : Released} {m : Moved} → Gathers t n h x m → Gathers t n h x (movedIn t n h x)
-gathers-good {t} {n} {h} {x} {m} g = subst (Gathers t n h x) (gathers-is g) g
+gathers-good : {ps : List Picture} {n : ℕ} {h : Handed} {x : Released} {m : Moved} → Gathers ps n h x m → Gathers ps n h x (movedIn ps n h x)
+gathers-good {ps} {n} {h} {x} g = subst (Gathers ps n h x) (gathers-is g) g
 
 -- where none is handed out yet
-pub starts : (t : List ℕ) (n : ℕ) (h : Handed) (x : Released) → HoldsHanded h [] → GoodReleased x → n ≤ 16 → x .len + n ≤ 17 → Gathers t n h x (startedIn t n x)
+pub starts : (ps : List Picture) (n : ℕ) (h : Handed) (x : Released) → HoldsHanded h [] → GoodReleased x → n ≤ 16 → x .len + n ≤ 17 → Gathers ps n h x (startedIn ps n x)
 unfolding waitings
-starts t n h x a b le room =
-    let e = table-length (pictureAt t) n in
-    let w : length (keep waits (pictures t n)) ≤ length (pictures t n) = few-wait (pictures t n) in
+starts ps n h x a b le room =
+    let e = table-length (placeAt ps) n in
+    let w : length (keep waits (front ps n)) ≤ length (front ps n) = few-wait (front ps n) in
     record { pics = refl; handed = a; thrown = refl; released = b; places = le; shows = omega arith; frees = omega (arith, b .long) }
 
--- ---- a picture that is handed out leaves or stays
+-- the parts made into one
+pub parts-moved : {ps : List Picture} {n : ℕ} {h : Handed} {t : Thrown} {x : Released} {r : Store.Moved} {m : Moved} → HoldsParts r ps n h t x → front ps n ≡ m .pics → n ≤ 16
+    → HoldsHanded h (m .tail .handed) → HoldsThrown t (m .tail .thrown) → HoldsReleased x (m .tail .released) → HoldsMoved r m
+parts-moved p e le a y b =
+    record {
+      pics = rw (p .places, p .len) e;
+      few = rw (p .len) le;
+      tail = record { handed = rw (p .handed, p .shown) a; thrown = rw (p .thrown, p .dropped) y; released = rw (p .released, p .freed) b };
+    }
 
-module _ (always : Bool) (at : ℕ) (t : List ℕ) (n : ℕ) (t′ : List ℕ) (p : Picture) (e : p ≡ pictureAt t at) where
-  pub bumps-leave : (always || not (isMarked (p .mark))) ≡ true → (k : ℕ) → k ≤ n → pictures t′ k ≡ keep (other (p .serial)) (pictures t n) → (Tidy t n → Tidy t′ k)
-      → Bumps always at t n t′ (record { shown = shown p; leaves = true; stored = k })
-  bumps-leave w k le h y =
-      record {
-        shown = ap (λ (q : Picture). shown q) e;
-        leaves = sym w ∙ ap (λ (q : Picture). always || not (isMarked (q .mark))) e;
-        pics = h ∙ ap (λ (q : Picture). keep (other (q .serial)) (pictures t n)) e;
-        few = le;
-        tidy = y;
-      }
+pub gathers-moved : {ps : List Picture} {n : ℕ} {h : Handed} {t : Thrown} {x : Released} {m : Moved} {r : Store.Moved} → Gathers ps n h x m → HoldsThrown t [] → HoldsParts r ps n h t x → HoldsMoved r m
+gathers-moved g y p = parts-moved p (g .pics) (g .places) (g .handed) (rw (g .thrown) y) (g .released)
 
-  pub bumps-stay : (always || not (isMarked (p .mark))) ≡ false → pictures t′ n ≡ map (done (p .serial .0)) (pictures t n) → (Tidy t n → Tidy t′ n)
-      → Bumps always at t n t′ (record { shown = shown p; leaves = false; stored = n })
-  bumps-stay w h y =
-      record {
-        shown = ap (λ (q : Picture). shown q) e;
-        leaves = sym w ∙ ap (λ (q : Picture). always || not (isMarked (q .mark))) e;
-        pics = h ∙ ap (λ (q : Picture). map (done (q .serial .0)) (pictures t n)) e;
-        few = omega arith;
-        tidy = y;
-      }
+-- ---- a turn, by what a walk over the pictures found
 
--- ---- the test of due, on a walk and on the pictures
-
-module _ (t : List ℕ) (n : ℕ) (x : Scan) where
-  due-is : (l : Limits) (b : Bool) → Scans t n (l .latency) x → dueScan (Due l b) x n ≡ due b l (pictures t n)
+module _ {ps : List Picture} {n : ℕ} {c : Scan} where
+  -- the test of due, on the walk and on the pictures
+  due-is : (l : Limits) (b : Bool) → Scans ps n (l .latency) c → dueScan (Due l b) c n ≡ due b l (front ps n)
   unfolding dueLate dueFull
-  due-is l true s = rw (s .waiting, s .late, table-length (pictureAt t) n)
+  due-is l true s = rw (s .waiting, s .late, table-length (placeAt ps) n)
   due-is l false s = rw (s .waiting, s .late) (or-false _)
 
-  module _ (latency : ℕ) (s : Scans t n latency x) where
-    -- where none is due or none waits a turn does nothing
-    pub turn-none : (r : Rule) → latency ≡ latencyBy r → (eqb (x .waiting) 0 || not (dueScan r x n)) ≡ true → turnBy r (pictures t n) ≡ still (pictures t n)
+  -- where none is due
+  turn-idle : (r : Rule) → Scans ps n (latencyBy r) c → dueScan r c n ≡ false → turnBy r (front ps n) ≡ still (front ps n)
+  turn-idle All s d = not-both true refl d
+  turn-idle (Due l b) s d = rw (sym (due-is l b s) ∙ d)
+
+  -- where none waits
+  module _ {latency : ℕ} (s : Scans ps n latency c) (e : c .lowest ≡ Nothing) where
+    hand-none : (b : Bool) → handOut b (front ps n) ≡ still (front ps n)
     unfolding handOut
-    turn-none All e d = go (eqb (x .waiting) 0) refl d
-      where
-        go : (w : Bool) → eqb (x .waiting) 0 ≡ w → (w || false) ≡ true → handOut true (pictures t n) ≡ still (pictures t n)
-        go true w q = rw (s .none (eqb-true (x .waiting) 0 w))
-        go false w q = not-both true refl (sym q)
-    turn-none (Due l b) e d = go (eqb (x .waiting) 0) (due b l (pictures t n)) refl (rw (due-is l b (rw e at s)) at d)
-      where
-        go : (w v : Bool) → eqb (x .waiting) 0 ≡ w → (w || not v) ≡ true → cond v (handOut false (pictures t n)) (still (pictures t n)) ≡ still (pictures t n)
-        go true true w q = rw (s .none (eqb-true (x .waiting) 0 w))
-        go true false w q = refl
-        go false true w q = not-both true refl (sym q)
-        go false false w q = refl
+    hand-none b = rw (s .found ∙ ap (foundIn ps) e)
 
-    abbrev one : Picture
-    one = pictureAt t (x .at)
+    turn-nothing : (r : Rule) → turnBy r (front ps n) ≡ still (front ps n)
+    turn-nothing All = hand-none true
+    turn-nothing (Due l b) = by-case (λ (m : Moved). m ≡ still (front ps n)) (due b l (front ps n)) _ _ (λ _. hand-none false) (λ _. refl)
 
-    -- else it hands out the lowest
-    found : (b : Bool) → eqb (x .waiting) 0 ≡ false → handOut b (pictures t n) ≡ handsOut (b || not (isMarked (one .mark))) one (pictures t n)
+  -- so a turn does nothing, and no more turns do
+  turn-none : (r : Rule) → Scans ps n (latencyBy r) c → dueNow r c n ≡ false → turnBy r (front ps n) ≡ still (front ps n)
+  turn-none r s d = go (c .lowest) refl
+    where
+      go : (l : Lowest) → c .lowest ≡ l → turnBy r (front ps n) ≡ still (front ps n)
+      go Nothing e = turn-nothing s e r
+      go (At at z) e = turn-idle r s (rw (lt-ltb 0 (c .waiting) (scan-waits s e)) at d)
+
+  pub turns-none : (r : Rule) → Scans ps n (latencyBy r) c → dueNow r c n ≡ false → turnsBy r (front ps n) ≡ still (front ps n)
+  unfolding turnsBy
+  turns-none r s d =
+      let qs = front ps n in
+      let k = length qs in
+      sym (turn-stuck (still qs) (turnBy r) k 0 (turns k (turnBy r) qs) (turn-first (still qs) (turnBy r) k) (turn-none r s d))
+
+  -- else it hands out the lowest
+  module _ {at : ℕ} {z : ℤ} (e : c .lowest ≡ At at z) where
+    hand-one : {latency : ℕ} → Scans ps n latency c → (b : Bool) → handOut b (front ps n) ≡ handsOut (b || not (isMarked (placeAt ps at .mark))) (placeAt ps at) (front ps n)
     unfolding handOut
-    found b w = rw (s .some (eqb-false (x .waiting) 0 w) .1)
+    hand-one s b = rw (s .found ∙ ap (foundIn ps) e)
 
-    pub turn-one : (r : Rule) → latency ≡ latencyBy r → (eqb (x .waiting) 0 || not (dueScan r x n)) ≡ false
-        → turnBy r (pictures t n) ≡ handsOut (alwaysBy r || not (isMarked (one .mark))) one (pictures t n)
-    turn-one All e d = go (eqb (x .waiting) 0) refl d
-      where
-        go : (w : Bool) → eqb (x .waiting) 0 ≡ w → (w || false) ≡ false → handOut true (pictures t n) ≡ leave (pictures t n) one
-        go true w q = not-both true refl q
-        go false w q = found true w
-    turn-one (Due l b) e d = go (eqb (x .waiting) 0) (due b l (pictures t n)) refl (rw (due-is l b (rw e at s)) at d)
-      where
-        go : (w v : Bool) → eqb (x .waiting) 0 ≡ w → (w || not v) ≡ false → cond v (handOut false (pictures t n)) (still (pictures t n)) ≡ handsOut (not (isMarked (one .mark))) one (pictures t n)
-        go true v w q = not-both true refl q
-        go false true w q = found false w
-        go false false w q = not-both true refl q
+    turn-one : (r : Rule) → Scans ps n (latencyBy r) c → dueScan r c n ≡ true → turnBy r (front ps n) ≡ handsOut (alwaysBy r || not (isMarked (placeAt ps at .mark))) (placeAt ps at) (front ps n)
+    turn-one All s d = hand-one s true
+    turn-one (Due l b) s d = rw (sym (due-is l b s) ∙ d) (hand-one s false)
 
--- ---- one turn on the places and the tail
+-- ---- what a turn tells, leaves and frees
 
-shows : (b : Bool) (p : Picture) (ps : List Picture) → handsOut b p ps .tail .handed ≡ shown p ∷ []
-shows true p ps = refl
-shows false p ps = refl
+hands-shows : (b : Bool) (p : Picture) (ps : List Picture) → handsOut b p ps .tail .handed ≡ shown p ∷ []
+hands-shows true p ps = refl
+hands-shows false p ps = refl
 
-throws : (b : Bool) (p : Picture) (ps : List Picture) → handsOut b p ps .tail .thrown ≡ []
-throws true p ps = refl
-throws false p ps = refl
+hands-throws : (b : Bool) (p : Picture) (ps : List Picture) → handsOut b p ps .tail .thrown ≡ []
+hands-throws true p ps = refl
+hands-throws false p ps = refl
+
+-- its surface, if it leaves
+abbrev pub freed : Bool → Picture → List Surface
+freed b p = cond b (p .surface ∷ []) []
+
+hands-frees : (b : Bool) (p : Picture) (ps : List Picture) → handsOut b p ps .tail .released ≡ freed b p
+hands-frees true p ps = refl
+hands-frees false p ps = refl
+
+hands-leaves : (b : Bool) (p : Picture) (ps : List Picture) → handsOut b p ps .pics ≡ withoutIt b (p .serial) ps
+hands-leaves true p ps = refl
+hands-leaves false p ps = refl
 
 shrinks-turn : (r : Rule) (ps : List Picture) → Shrinks ps (turnBy r ps)
 shrinks-turn All ps = shrinks-hand true ps
@@ -141,100 +146,105 @@ handedMore h y = record { items = set (h .items) (h .len) y; len = h .len + 1 }
 abbrev pub releasedMore : Released → Surface → Released
 releasedMore x y = record { items = set (x .items) (x .len) y; len = x .len + 1 }
 
-module _ (rule : Rule) (t : List ℕ) (n : ℕ) (h : Handed) (x : Released) (g : Gathers t n h x (movedIn t n h x)) (s : Scan) (latency : ℕ) (sc : Scans t n latency s)
-    (e : latency ≡ latencyBy rule) (d : (eqb (s .waiting) 0 || not (dueScan rule s n)) ≡ false) where
-  abbrev ps : List Picture
-  ps = pictures t n
-
-  pub there : s .at < n
-  there = sc .some (eqb-false (s .waiting) 0 (or-none _ _ d)) .0
-
-  -- one waits, and may be handed out
-  pub handed-room : h .len < 16
-  handed-room =
-      let w : s .waiting ≡ 0 → ⊥ = eqb-false (s .waiting) 0 (or-none _ _ d) in
-      omega (arith, w, sc .waiting, g .shows, g .handed .long)
-
-  -- one is stored, and may be released
-  pub released-room : x .len < 17
-  released-room = omega (arith, there, table-length (pictureAt t) n, g .frees, g .released .long)
-
-  module _ (always : Bool) (t′ : List ℕ) (r : Bumped) (a : always ≡ alwaysBy rule) (b : Bumps always (s .at) t n t′ r) where
-    abbrev p : Picture
-    p = pictureAt t (s .at)
-
-    next : turnBy rule ps ≡ handsOut (r .leaves) p ps
-    next = turn-one t n s latency sc rule e d ∙ ap (λ (c : Bool). handsOut (c || not (isMarked (p .mark))) p ps) (sym a) ∙ ap (λ (c : Bool). handsOut c p ps) (sym (b .leaves))
-
-    -- its surface is released if it left
-    pub released-left : r .leaves ≡ true → HoldsReleased (releasedMore x (r .shown .surface)) (releasedIn x ++ turnBy rule ps .tail .released)
-    released-left w =
-        let q : turnBy rule ps ≡ leave ps p = next ∙ ap (λ (c : Bool). handsOut c p ps) w in
-        rw (q, b .shown) (is-push (g .released) (p .surface) released-room)
-
-    pub released-stay : r .leaves ≡ false → HoldsReleased x (releasedIn x ++ turnBy rule ps .tail .released)
-    released-stay w =
-        let q : turnBy rule ps .tail .released ≡ [] = ap (λ (m : Moved). m .tail .released) next ∙ ap (λ (c : Bool). handsOut c p ps .tail .released) w in
-        rw (q, append-nil (releasedIn x)) (g .released)
-
-    pub gathers-more : (x′ : Released) → HoldsReleased x′ (releasedIn x ++ turnBy rule ps .tail .released)
-        → Gathers t′ (r .stored) (handedMore h (r .shown)) x′ (andThen (movedIn t n h x) (turnBy rule))
-    unfolding waitings
-    gathers-more x′ o =
-        let z = shrinks-turn rule ps in
-        let w : turnBy rule ps .tail .handed ≡ r .shown ∷ [] = ap (λ (m : Moved). m .tail .handed) next ∙ shows (r .leaves) p ps ∙ ap (λ (y : Shown). y ∷ []) (sym (b .shown)) in
-        record {
-          pics = b .pics ∙ ap (λ (m : Moved). m .pics) (sym next);
-          handed = rw w (is-push (g .handed) (r .shown) handed-room);
-          thrown = ap (λ (m : Moved). m .tail .thrown) next ∙ throws (r .leaves) p ps;
-          released = o;
-          places = omega (arith, b .few, g .places);
-          shows = omega (arith, z .shows, g .shows, length-append (handedIn h) (turnBy rule ps .tail .handed));
-          frees = omega (arith, z .frees, g .frees, length-append (releasedIn x) (turnBy rule ps .tail .released));
-        }
-
 -- ---- a round: after i turns of n
 
-pub record Turned (rule : Rule) (t₀ : List ℕ) (n : ℕ) (x₀ : Released) (i : ℕ) (t : List ℕ) (k : ℕ) (h : Handed) (x : Released) : Type 0 where
-  pub gathers : Gathers t k h x (movedIn t k h x)
-  pub moved : andThen (movedIn t k h x) (turns (n - i) (turnBy rule)) ≡ andThen (startedIn t₀ n x₀) (turns n (turnBy rule))
+pub record Turned (rule : Rule) (ps₀ : List Picture) (n : ℕ) (x₀ : Released) (i : ℕ) (ps : List Picture) (k : ℕ) (h : Handed) (x : Released) (c : Scan) : Type 0 where
+  pub gathers : Gathers ps k h x (movedIn ps k h x)
+  pub moved : andThen (movedIn ps k h x) (turns (n - i) (turnBy rule)) ≡ andThen (startedIn ps₀ n x₀) (turns n (turnBy rule))
   pub turned : i ≤ n
-  pub tidy : Tidy t₀ n → Tidy t k
+  pub scan : Scans ps k (latencyBy rule) c
 
-module _ (rule : Rule) (t₀ : List ℕ) (n : ℕ) (x₀ : Released) where
-  abbrev all : Moved
-  all = andThen (startedIn t₀ n x₀) (turns n (turnBy rule))
+pub turned-none : (rule : Rule) (ps : List Picture) (n : ℕ) (h : Handed) (x : Released) (c : Scan) → Gathers ps n h x (startedIn ps n x) → Scans ps n (latencyBy rule) c → Turned rule ps n x 0 ps n h x c
+turned-none rule ps n h x c g s =
+    record {
+      gathers = gathers-good g;
+      moved = turn-first (movedIn ps n h x) (turnBy rule) n ∙ ap (λ (m : Moved). andThen m (turns n (turnBy rule))) (sym (gathers-is g));
+      turned = omega arith;
+      scan = s;
+    }
 
-  pub turned-none : (h₀ : Handed) → Gathers t₀ n h₀ x₀ (startedIn t₀ n x₀) → Turned rule t₀ n x₀ 0 t₀ n h₀ x₀
-  turned-none h₀ g =
-      record {
-        gathers = gathers-good g;
-        moved = turn-first (movedIn t₀ n h₀ x₀) (turnBy rule) n ∙ ap (λ (m : Moved). andThen m (turns n (turnBy rule))) (sym (gathers-is g));
-        turned = omega arith;
-        tidy = λ y. y;
-      }
+module _ {rule : Rule} {ps₀ : List Picture} {n : ℕ} {x₀ : Released} {i : ℕ} {ps : List Picture} {k : ℕ} {h : Handed} {x : Released} {c : Scan} (g : Turned rule ps₀ n x₀ i ps k h x c) where
+  -- the last turn
+  rounds : movedIn ps k h x ≡ andThen (startedIn ps₀ n x₀) (turns n (turnBy rule)) → Gathers ps k h x (andThen (startedIn ps₀ n x₀) (turnsBy rule))
+  unfolding turnsBy
+  rounds q =
+      subst (Gathers ps k h x) (q ∙ ap (λ (j : ℕ). andThen (startedIn ps₀ n x₀) (turns j (turnBy rule))) (sym (table-length (placeAt ps₀) n))) (g .gathers)
 
-  module _ (i : ℕ) (t : List ℕ) (k : ℕ) (h : Handed) (x : Released) (g : Turned rule t₀ n x₀ i t k h x) where
-    rounds : movedIn t k h x ≡ all → Gathers t k h x (andThen (startedIn t₀ n x₀) (turnsBy rule))
-    unfolding turnsBy
-    rounds q =
-        subst (Gathers t k h x) (q ∙ ap (λ (j : ℕ). andThen (startedIn t₀ n x₀) (turns j (turnBy rule))) (sym (table-length (pictureAt t₀) n))) (g .gathers)
+  pub turned-all : n ≤ i → Gathers ps k h x (andThen (startedIn ps₀ n x₀) (turnsBy rule))
+  turned-all le = rounds (turn-last (movedIn ps k h x) (turnBy rule) n i _ (g .moved) le)
 
-    pub turned-all : n ≤ i → Gathers t k h x (andThen (startedIn t₀ n x₀) (turnsBy rule))
-    turned-all le = rounds (turn-last (movedIn t k h x) (turnBy rule) n i all (g .moved) le)
+  turned-stuck : turnBy rule (front ps k) ≡ still (front ps k) → Gathers ps k h x (andThen (startedIn ps₀ n x₀) (turnsBy rule))
+  turned-stuck e = rounds (turn-stuck (movedIn ps k h x) (turnBy rule) n i _ (g .moved) e)
 
-    module _ (s : Scan) (latency : ℕ) (sc : Scans t k latency s) (e : latency ≡ latencyBy rule) where
-      pub turned-stuck : (eqb (s .waiting) 0 || not (dueScan rule s k)) ≡ true → Gathers t k h x (andThen (startedIn t₀ n x₀) (turnsBy rule))
-      turned-stuck d = rounds (turn-stuck (movedIn t k h x) (turnBy rule) n i all (g .moved) (turn-none t k s latency sc rule e d))
+  pub turned-nothing : c .lowest ≡ Nothing → Gathers ps k h x (andThen (startedIn ps₀ n x₀) (turnsBy rule))
+  turned-nothing e = turned-stuck (turn-nothing (g .scan) e rule)
 
-      pub turned-more : (d : (eqb (s .waiting) 0 || not (dueScan rule s k)) ≡ false) (always : Bool) (t′ : List ℕ) (r : Bumped) (x′ : Released) → always ≡ alwaysBy rule
-          → Bumps always (s .at) t k t′ r → HoldsReleased x′ (releasedIn x ++ turnBy rule (pictures t k) .tail .released) → i < n
-          → Turned rule t₀ n x₀ (i + 1) t′ (r .stored) (handedMore h (r .shown)) x′
-      turned-more d always t′ r x′ a b o lt =
-          let m = gathers-more rule t k h x (g .gathers) s latency sc e d always t′ r a b x′ o in
+  pub turned-idle : dueScan rule c k ≡ false → Gathers ps k h x (andThen (startedIn ps₀ n x₀) (turnsBy rule))
+  turned-idle d = turned-stuck (turn-idle rule (g .scan) d)
+
+  -- one is found: its place, and room for it in both parts of the tail
+  module _ {at : ℕ} {z : ℤ} (e : c .lowest ≡ At at z) where
+    pub found-at : at < 16
+    found-at = omega (arith, scan-at (g .scan) e, g .gathers .places)
+
+    pub found-handed : h .len < 16
+    found-handed = omega (arith, scan-waits (g .scan) e, g .scan .waiting, g .gathers .shows, g .gathers .handed .long)
+
+    pub found-released : x .len < 17
+    found-released = omega (arith, scan-at (g .scan) e, table-length (placeAt ps) k, g .gathers .frees, g .gathers .released .long)
+
+    -- its surface is released if it leaves
+    pub released-left : {b : Bool} → b ≡ true → HoldsReleased (releasedMore x (placeAt ps at .surface)) (releasedIn x ++ freed b (placeAt ps at))
+    released-left w = rw w (is-push (g .gathers .released) (placeAt ps at .surface) found-released)
+
+    pub released-stay : {b : Bool} → b ≡ false → HoldsReleased x (releasedIn x ++ freed b (placeAt ps at))
+    released-stay w = rw (w, append-nil (releasedIn x)) (g .gathers .released)
+
+    module _ (d : dueScan rule c k ≡ true) {b : Bool} (w : b ≡ (alwaysBy rule || not (isMarked (placeAt ps at .mark)))) {t : Turn} (u : Bumps ps k (placeAt ps at .serial) b (latencyBy rule) t)
+        {x′ : Released} (o : HoldsReleased x′ (releasedIn x ++ freed b (placeAt ps at))) where
+      next : turnBy rule (front ps k) ≡ handsOut b (placeAt ps at) (front ps k)
+      next = turn-one e rule (g .scan) d ∙ ap (λ (a : Bool). handsOut a (placeAt ps at) (front ps k)) (sym w)
+
+      more : Gathers (t .places) (t .len) (handedMore h (shown (placeAt ps at))) x′ (andThen (movedIn ps k h x) (turnBy rule))
+      unfolding waitings
+      more =
+          let qs = front ps k in
+          let p = placeAt ps at in
+          let y = shrinks-turn rule qs in
+          let hs : turnBy rule qs .tail .handed ≡ shown p ∷ [] = ap (λ (m : Moved). m .tail .handed) next ∙ hands-shows b p qs in
+          let fs : turnBy rule qs .tail .released ≡ freed b p = ap (λ (m : Moved). m .tail .released) next ∙ hands-frees b p qs in
           record {
-            gathers = gathers-good m;
-            moved = turn-more (movedIn t k h x) (turnBy rule) n i all (g .moved) (movedIn t′ (r .stored) (handedMore h (r .shown)) x′) (sym (gathers-is m)) lt;
-            turned = omega arith;
-            tidy = λ y. b .tidy (g .tidy y);
+            pics = u .pics ∙ sym (ap (λ (m : Moved). m .pics) next ∙ hands-leaves b p qs);
+            handed = rw hs (is-push (g .gathers .handed) (shown p) found-handed);
+            thrown = ap (λ (m : Moved). m .tail .thrown) next ∙ hands-throws b p qs;
+            released = rw fs o;
+            places = omega (arith, u .few, g .gathers .places);
+            shows = omega (arith, y .shows, g .gathers .shows, length-append (handedIn h) (turnBy rule qs .tail .handed));
+            frees = omega (arith, y .frees, g .gathers .frees, length-append (releasedIn x) (turnBy rule qs .tail .released));
           }
+
+      pub turned-more : i < n → Turned rule ps₀ n x₀ (i + 1) (t .places) (t .len) (handedMore h (shown (placeAt ps at))) x′ (t .scan)
+      turned-more lt =
+          record {
+            gathers = gathers-good more;
+            moved = turn-more (movedIn ps k h x) (turnBy rule) n i _ (g .moved) (movedIn (t .places) (t .len) (handedMore h (shown (placeAt ps at))) x′) (sym (gathers-is more)) lt;
+            turned = omega arith;
+            scan = u .scan;
+          }
+
+-- ---- after a round
+
+-- what is left may still be released and handed out
+pub moved-room : (rule : Rule) (ps : List Picture) (n : ℕ) (x : Released) {r : Store.Moved} → HoldsMoved r (andThen (startedIn ps n x) (turnsBy rule)) → GoodReleased x → n ≤ 16 → x .len + n ≤ 17
+    → (r .freed + r .len ≤ 17) × (r .shown + length (keep waits (front (r .places) (r .len))) ≤ 16)
+unfolding waitings turnsBy
+moved-room rule ps n x {r} m b le room =
+    let qs = front ps n in
+    let y = shrinks-turns (turnBy rule) (shrinks-turn rule) (length qs) qs in
+    let q = turns (length qs) (turnBy rule) qs in
+    let l = ap length (m .pics) in
+    let k = ap (λ (l : List Picture). length (keep waits l)) (m .pics) in
+    let w : length (keep waits qs) ≤ length qs = few-wait qs in (
+      omega (arith, y .frees, l, table-length (placeAt (r .places)) (r .len), table-length (placeAt ps) n, m .tail .released .long, length-append (releasedIn x) (q .tail .released), b .long),
+      omega (arith, y .shows, k, table-length (placeAt ps) n, m .tail .handed .long),
+    )

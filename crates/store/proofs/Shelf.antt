@@ -19,9 +19,8 @@ use Rattle.paper.specs.Numbers.{aSerial, aSurface}
 use Rattle.paper.specs.declared.Mark.{Mark}
 use Rattle.paper.specs.declared.Mark.the-variants.{Unmarked, ShortTerm, LongTerm}
 use Rattle.paper.specs.declared.Picture.{Picture}
-use Rattle.paper.specs.Sets.{marked}
 pub use Rattle.derivation.proofs.Runs.{table-same}
-use Rattle.store.specs.Shelf.{word, flagOf, flagWord, markOf, markWord, pictureAt, pictures, stored, countIn, Neat, Puts, quieted, recounted}
+use Rattle.store.specs.Shelf.{word, flagOf, flagWord, markOf, markWord, pictureAt, pictures, stored, countIn, Neat, Puts}
 
 pub flag-back : (b : Bool) → flagOf (flagWord b) ≡ b
 flag-back true = refl
@@ -60,11 +59,6 @@ table-join f a (suc b) =
 -- another word than the one written
 pub off : (t : List ℕ) (a b v : ℕ) → (b ≡ a → ⊥) → word (set t a v) b ≡ word t b
 off t a b v n = getD-set-other t a b v 0 n
-
--- one word behind the first k, each read by g
-pub word-more : {A : Type 0} (g : ℕ → A) (xs : List ℕ) (k v : ℕ) → k < length xs → table (λ (i : ℕ). g (word (set xs k v) i)) (k + 1) ≡ table (λ (i : ℕ). g (word xs i)) k ++ (g v ∷ [])
-word-more g xs k v lt =
-    table-next (λ (i : ℕ). g (word (set xs k v) i)) (λ (i : ℕ). g (word xs i)) k (g v) (λ i l. ap g (off xs k i v (λ e. omega arith))) (ap g (getD-set-same xs k v 0 lt))
 
 -- a picture behind the first n
 pub stores : (n : ℕ) (p : Picture) (t t′ : List ℕ) (ps : List Picture) → Puts n p t t′ → pictures t n ≡ ps → pictures t′ (n + 1) ≡ ps ++ (p ∷ [])
@@ -190,50 +184,6 @@ module _ (t : List ℕ) (i a b c d e f : ℕ) (room : 97 ≤ length t) (lt : i <
         neat = neat-but t now6 i (λ j g n l lg. beside t (6 * i) a b c d e f r (6 * j + g) (λ x y. n (omega arith)))
             (λ all. neat-by now6 i (word2 t (6 * i) a b c d e f r) (word3 t (6 * i) a b c d e f r) (word4 t (6 * i) a b c d e f r) (h all));
       }
-
--- one word of place i
-module _ (t : List ℕ) (i v : ℕ) (room : 97 ≤ length t) (lt : i < 16) where
-  kept : (f g : ℕ) → (g ≡ f → ⊥) → word (set t (6 * i + f) v) (6 * i + g) ≡ word t (6 * i + g)
-  kept f g n = off t (6 * i + f) (6 * i + g) v (λ e. n (omega arith))
-
-  serial-kept : (f : ℕ) → 0 < f → word (set t (6 * i + f) v) (6 * i) ≡ word t (6 * i)
-  serial-kept f lf = off t (6 * i + f) (6 * i) v (λ e. omega arith)
-
-  written : (f : ℕ) → f < 6 → word (set t (6 * i + f) v) (6 * i + f) ≡ v
-  written f lf = getD-set-same t (6 * i + f) v 0 (omega arith)
-
-  module _ (f : ℕ) (lf : f < 6) where
-    pub puts-one : (p : Picture) → pictureAt (set t (6 * i + f) v) i ≡ p → (Neat t i → Neat (set t (6 * i + f) v) i) → Puts i p t (set t (6 * i + f) v)
-    puts-one p e h =
-        record {
-          at = e;
-          others = λ j n. elsewhere t i f v j lf n;
-          count = off t (6 * i + f) 96 v (λ x. omega arith);
-          neat = neat-but t (set t (6 * i + f) v) i (λ j g n l lg. off t (6 * i + f) (6 * j + g) v (λ x. n (omega arith))) (λ all. h (all i lt));
-        }
-
-  pub puts-mark : (m : Mark) → v ≡ markWord m → Puts i (marked m (pictureAt t i)) t (set t (6 * i + 3) v)
-  unfolding pictureAt
-  puts-mark m e =
-      puts-one 3 (omega arith) (marked m (pictureAt t i))
-      (rw (serial-kept 3 (omega arith), kept 3 1 (λ x. omega arith), kept 3 2 (λ x. omega arith), written 3 (omega arith), kept 3 4 (λ x. omega arith), kept 3 5 (λ x. omega arith), e, mark-back m))
-      (λ h. let s = spells t i h in
-      neat-by (set t (6 * i + 3) v) i (kept 3 2 (λ x. omega arith)) (written 3 (omega arith) ∙ e) (kept 3 4 (λ x. omega arith)) (record { poc = s .poc; mark = mark-spells m; flag = s .flag }))
-
-  pub puts-count : Puts i (recounted v (pictureAt t i)) t (set t (6 * i + 5) v)
-  unfolding pictureAt
-  puts-count =
-      puts-one 5 (omega arith) (recounted v (pictureAt t i))
-      (rw (serial-kept 5 (omega arith), kept 5 1 (λ x. omega arith), kept 5 2 (λ x. omega arith), kept 5 3 (λ x. omega arith), kept 5 4 (λ x. omega arith), written 5 (omega arith)))
-      (λ h. neat-by (set t (6 * i + 5) v) i (kept 5 2 (λ x. omega arith)) (kept 5 3 (λ x. omega arith)) (kept 5 4 (λ x. omega arith)) (spells t i h))
-
-pub puts-quiet : (t : List ℕ) (i : ℕ) → 97 ≤ length t → i < 16 → Puts i (quieted (pictureAt t i)) t (set t (6 * i + 4) 0)
-unfolding pictureAt
-puts-quiet t i room lt =
-    puts-one t i 0 room lt 4 (omega arith) (quieted (pictureAt t i))
-    (rw (serial-kept t i 0 room lt 4 (omega arith), kept t i 0 room lt 4 1 (λ x. omega arith), kept t i 0 room lt 4 2 (λ x. omega arith), kept t i 0 room lt 4 3 (λ x. omega arith), written t i 0 room lt 4 (omega arith), kept t i 0 room lt 4 5 (λ x. omega arith)))
-    (λ h. let s = spells t i h in
-    neat-by (set t (6 * i + 4) 0) i (kept t i 0 room lt 4 2 (λ x. omega arith)) (kept t i 0 room lt 4 3 (λ x. omega arith)) (written t i 0 room lt 4 (omega arith)) (record { poc = s .poc; mark = s .mark; flag = refl }))
 
 -- a picture's own words
 pub own-words : (p : Picture) → SFits w32 (p .poc)

@@ -71,10 +71,6 @@ module _ (t : List ℕ) (n : ℕ) (room : 97 ≤ length t) where
       let e : word (set t 96 n) 96 ≡ n = getD-set-same t 96 n 0 (omega arith) in
       record { few = omega (arith, e); tidy = tidy-more (used-tidy d) (omega (arith, e)) }
 
--- a change that keeps how many are used
-pub normal-kept : {t t′ : List ℕ} → word t′ 96 ≡ word t 96 → (Tidy t (word t 96) → Tidy t′ (word t 96)) → NormalForm t → NormalForm t′
-normal-kept e f h = record { few = omega (arith, e, h .few); tidy = tidy-more (f (h .tidy)) (omega (arith, e)) }
-
 -- ---- no picture
 
 zeros : (n k : ℕ) → word (replicate n 0) k ≡ 0

@@ -1,17 +1,25 @@
 -- A walk that looks for something: none of those passed is it, and the first that is ends the walk. Assumes nothing.
-use Prim.Native.Nat.{ℕ, zero, suc, _+_, _<_}
+use Prim.Native.Nat.{ℕ, zero, suc, _+_, _≤_, _<_, min}
 use mathlib.Core.Path.{_≡_, refl, sym, ap, _∙_}
-use mathlib.Core.Bool.{Bool, true, false, _||_, or-assoc, or-false}
-use mathlib.Core.List.{List, [], _∷_, _++_, append-nil}
+use mathlib.Core.Bool.{Bool, true, false, cond, not, _||_, or-assoc, or-false}
+use mathlib.Core.List.{List, [], _∷_, _++_}
 use native.Mathlib.Omega.{arith}
 use native.Mathlib.Numerals.{add-one}
 use lib.Dec.{eqb}
+use lib.IntN.{ℤ}
+use lib.ListN.{length, take, drop}
+use lib.Seq.{take-suc}
 use borrow.Author.Tests.{eqb-true, eqb-false}
-use Rattle.paper.proofs.Bools.{split, or-left, or-right}
+use Rattle.paper.proofs.Bools.{split, or-left, or-right, not-both}
 use Rattle.paper.specs.Words.{table, anyB}
-use Rattle.paper.specs.Numbers.{missing}
 use Rattle.paper.specs.Sets.{firstOf}
 use Rattle.paper.specs.declared.Picture.{Picture}
+use Rattle.paper.specs.declared.Found.the-variants.{Nothing, The}
+use Rattle.paper.proofs.Places.{at-cons, at-end}
+use Rattle.store.specs.Walks.{blank, soughtFor, foundOf, memberOf}
+use Rattle.store.specs.declared.pictures.Sought.the-variants.{AnyAt, LowAt, ShortAt}
+use Rattle.store.specs.declared.Store.{Store}
+use Rattle.store.specs.Places.{placeAt, front, storedIn}
 use Rattle.store.proofs.Shelf.{table-more}
 
 pub any-append : {A : Type 0} (f : A → Bool) (a b : List A) → anyB f (a ++ b) ≡ (anyB f a || anyB f b)
@@ -46,26 +54,41 @@ module _ {A : Type 0} (f : A → Bool) (g : ℕ → A) where
 
 -- ---- the first that is found
 
-first-front : (f : Picture → Bool) (a b : List Picture) → anyB f a ≡ true → firstOf f (a ++ b) ≡ firstOf f a
-unfolding anyB firstOf
-first-front f [] b e = absurd (let z : _≡_ {A = ℕ} 0 1 = cc in omega arith)
-first-front f (x ∷ a) b e = split (f x) (λ p. rw p) (λ p. rw p (first-front f a b (rw p at e)))
+module _ (f : Picture → Bool) where
+  -- what a search gives a set is what the paper's search gives
+  pub member-first : (ps : List Picture) → memberOf (foundOf f ps) ≡ firstOf f ps
+  unfolding foundOf firstOf
+  member-first [] = refl
+  member-first (p ∷ ps) = split (f p) (λ e. rw e) (λ e. rw e (member-first ps))
 
-first-rest : (f : Picture → Bool) (a b : List Picture) → anyB f a ≡ false → firstOf f (a ++ b) ≡ firstOf f b
-unfolding anyB firstOf
-first-rest f [] b e = refl
-first-rest f (x ∷ a) b e = split (f x) (λ p. absurd (let z : _≡_ {A = ℕ} 0 1 = cc in omega arith)) (λ p. rw p (first-rest f a b (rw p at e)))
+  -- the search from a place on: it ends here, goes on behind, or is at the end
+  module _ (ps : List Picture) (i : ℕ) where
+    pub found-here : i < length ps → f (placeAt ps i) ≡ true → foundOf f (drop i ps) ≡ The (placeAt ps i)
+    unfolding foundOf
+    found-here lt e = ap (foundOf f) (at-cons ps i blank lt) ∙ rw e
 
-pub first-none : (f : Picture → Bool) (ps : List Picture) → anyB f ps ≡ false → firstOf f ps ≡ missing
-unfolding anyB firstOf
-first-none f ps e = ap (firstOf f) (sym (append-nil ps)) ∙ first-rest f ps [] e
+    pub found-later : i < length ps → f (placeAt ps i) ≡ false → foundOf f (drop (i + 1) ps) ≡ foundOf f (drop i ps)
+    unfolding foundOf
+    found-later lt e = sym (ap (foundOf f) (at-cons ps i blank lt) ∙ rw e)
 
-pub first-hit : (f : Picture → Bool) (g : ℕ → Picture) (i n : ℕ) → i < n → anyB f (table g i) ≡ false → f (g i) ≡ true → firstOf f (table g n) ≡ g i .serial
-unfolding firstOf
-first-hit f g i zero lt h e = absurd (omega arith)
-first-hit f g i (suc n) lt h e =
-    let m : table g (suc n) ≡ table g n ++ (g n ∷ []) = rw (← add-one n) (table-more g n) in
-    ap (firstOf f) m
-    ∙ split (eqb i n)
-    (λ q. let x : i ≡ n = eqb-true i n q in first-rest f (table g n) (g n ∷ []) (rw x at h) ∙ rw (← x, e))
-    (λ q. let d = eqb-false i n q in first-front f (table g n) (g n ∷ []) (any-hit f g i n (omega arith) e) ∙ first-hit f g i n (omega arith) h e)
+    pub found-end : length ps ≤ i → foundOf f (drop i ps) ≡ Nothing
+    unfolding foundOf
+    found-end le = ap (foundOf f) (at-end ps i le)
+
+-- the first n places, as a part of the array
+pub take-front : (ps : List Picture) (n : ℕ) → n ≤ length ps → take n ps ≡ front ps n
+unfolding table
+take-front ps zero le = refl
+take-front ps (suc n) le = take-suc ps n blank le ∙ ap (λ (l : List Picture). l ++ (placeAt ps n ∷ [])) (take-front ps n (omega arith))
+
+pub stored-take : (s : Store) → length (s .places) ≡ 16 → take (min (s .len) 16) (s .places) ≡ storedIn s
+stored-take s e = take-front (s .places) (min (s .len) 16) (omega arith)
+
+-- what an entry asks for, by its way
+pub sought-short : (long : Bool) (k : ℕ) (z : ℤ) (whole : Bool) → not long ≡ true → ShortAt z ≡ soughtFor long k z whole
+sought-short true k z whole e = not-both false e refl
+sought-short false k z whole e = refl
+
+pub sought-long : (long : Bool) (k : ℕ) (z : ℤ) (b whole : Bool) → not long ≡ false → whole ≡ b → cond b (AnyAt z) (LowAt k z) ≡ soughtFor long k z whole
+sought-long true k z b whole e h = rw h
+sought-long false k z b whole e h = not-both true refl e

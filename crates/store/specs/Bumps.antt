@@ -1,41 +1,62 @@
--- Handing out on lent words: a walk, a picture handed out, and round after round.
+-- Handing out: a walk, a picture handed out, and round after round.
 use Prim.Native.Nat.{ℕ, _+_, _≤_, _<_}
 use mathlib.Core.Path.{_≡_}
 use mathlib.Core.Bool.{Bool, true, false, cond, not, _&&_, _||_}
-use mathlib.Core.List.{List}
+use mathlib.Core.List.{List, map}
 use lib.ListN.{length}
+use lib.IntN.{ℤ}
 use lib.Dec.{eqb, ltb, leb}
 use lib.Signed.{ltZ}
 use Rattle.paper.specs.Words.{keep, anyB}
-use Rattle.paper.specs.State.{isMarked}
-use Rattle.paper.specs.Output.{Moved, still, turns, handOut, due, lowest, leave, stay, shown}
+use Rattle.paper.specs.Output.{still, turns, handOut, due, lowest, leave, stay, done}
+use Rattle.paper.specs.Output as Output
 use Rattle.paper.specs.declared.Picture.{Picture}
+use Rattle.paper.specs.declared.Serial.{Serial}
 use Rattle.paper.specs.declared.Limits.{Limits}
-use Rattle.paper.specs.declared.Found.the-variants.{Nothing, The}
-use Rattle.store.specs.Walks.{lateBy}
-use Rattle.store.specs.Shelf.{pictureAt, pictures, stored, Tidy, NormalForm}
+use Rattle.paper.specs.declared.Found.{Found}
+use Rattle.paper.specs.declared.Found.the-variants as Found
+use Rattle.store.specs.Walks.{lateBy, other}
+use Rattle.store.specs.Shelf.{stored, NormalForm}
+use Rattle.store.specs.Places.{placeAt, front}
 use Rattle.store.specs.Tails.{HoldsTail, waits}
-use Rattle.store.specs.declared.Tail.{Tail}
-use Rattle.store.specs.declared.bumping.Bumped.{Bumped}
+use Rattle.store.specs.declared.Moved.{Moved}
+use Rattle.store.specs.declared.bumping.Lowest.{Lowest}
+use Rattle.store.specs.declared.bumping.Lowest.the-variants.{Nothing, At}
 use Rattle.store.specs.declared.bumping.Scan.{Scan}
+use Rattle.store.specs.declared.bumping.Turn.{Turn}
 use Rattle.store.specs.declared.bumping.Rule.{Rule}
 use Rattle.store.specs.declared.bumping.Rule.the-variants.{All, Due}
 
+-- the paper's picture for each case: the lowest of those in these places
+abbrev pub foundIn : List Picture → Lowest → Found
+foundIn ps Nothing = Found.Nothing
+foundIn ps (At i z) = Found.The (placeAt ps i)
+
+-- a place among the first n, with its POC
+abbrev pub Within : List Picture → ℕ → Lowest → Type 0
+Within ps n Nothing = n ≡ n
+Within ps n (At i z) = (i < n) × (z ≡ placeAt ps i .poc)
+
 -- one picture more
+abbrev pub nothingSeen : Scan
+nothingSeen = record { waiting = 0; late = false; lowest = Nothing }
+
+abbrev pub lowerBy : Lowest → ℕ → ℤ → Lowest
+lowerBy Nothing i z = At i z
+lowerBy (At j y) i z = cond (ltZ z y) (At i z) (At j y)
+
 abbrev pub seenBy : Scan → ℕ → Picture → ℕ → Scan
 seenBy c i p latency =
     cond (p .waiting)
-    (cond (eqb (c .waiting) 0 || ltZ (p .poc) (c .poc))
-    (record { waiting = c .waiting + 1; late = c .late || leb latency (p .count); at = i; poc = p .poc })
-    (record { waiting = c .waiting + 1; late = c .late || leb latency (p .count); at = c .at; poc = c .poc }))
+    (record { waiting = c .waiting + 1; late = c .late || leb latency (p .count); lowest = lowerBy (c .lowest) i (p .poc) })
     c
 
 -- what a walk over the pictures finds: how many wait, whether one of them is late, and the lowest
-pub record Scans (t : List ℕ) (n latency : ℕ) (x : Scan) : Type 0 where
-  pub waiting : x .waiting ≡ length (keep waits (pictures t n))
-  pub late : x .late ≡ anyB (lateBy latency) (pictures t n)
-  pub none : x .waiting ≡ 0 → lowest Nothing (pictures t n) ≡ Nothing
-  pub some : (x .waiting ≡ 0 → ⊥) → (x .at < n) × (lowest Nothing (pictures t n) ≡ The (pictureAt t (x .at)))
+pub record Scans (ps : List Picture) (n latency : ℕ) (x : Scan) : Type 0 where
+  pub waiting : x .waiting ≡ length (keep waits (front ps n))
+  pub late : x .late ≡ anyB (lateBy latency) (front ps n)
+  pub found : lowest Found.Nothing (front ps n) ≡ foundIn ps (x .lowest)
+  pub within : Within ps n (x .lowest)
 
 -- "waiting > reorder; or latency ≠ 0 and a waiting picture's count ≥ latency"
 abbrev pub dueBy : Limits → ℕ → Bool → Bool
@@ -44,6 +65,10 @@ dueBy l waiting late = ltb (l .reorder) waiting || (not (eqb (l .latency) 0) && 
 abbrev pub dueScan : Rule → Scan → ℕ → Bool
 dueScan All c stored = true
 dueScan (Due l b) c stored = dueBy l (c .waiting) (c .late) || (b && leb (l .buffering) stored)
+
+-- one waits and is due
+abbrev pub dueNow : Rule → Scan → ℕ → Bool
+dueNow r c stored = ltb 0 (c .waiting) && dueScan r c stored
 
 abbrev pub alwaysBy : Rule → Bool
 alwaysBy All = true
@@ -54,27 +79,28 @@ latencyBy All = 0
 latencyBy (Due l b) = l .latency
 
 -- one turn, and as many as are stored: `handWhile (due b l)`, or the first part of emptying
-abbrev pub turnBy : Rule → List Picture → Moved
+abbrev pub turnBy : Rule → List Picture → Output.Moved
 turnBy All ps = handOut true ps
 turnBy (Due l b) ps = cond (due b l ps) (handOut false ps) (still ps)
 
-unfoldable pub turnsBy : Rule → List Picture → Moved
+unfoldable pub turnsBy : Rule → List Picture → Output.Moved
 turnsBy r ps = turns (length ps) (turnBy r) ps
 
 -- "it no longer waits, and leaves the store if unmarked", or always
-abbrev pub handsOut : Bool → Picture → List Picture → Moved
+abbrev pub handsOut : Bool → Picture → List Picture → Output.Moved
 handsOut leaves p ps = cond leaves (leave ps p) (stay ps p)
 
--- the picture at a place of the first n is handed out: it left, or stayed and no longer waits
-pub record Bumps (always : Bool) (at : ℕ) (t : List ℕ) (n : ℕ) (t′ : List ℕ) (r : Bumped) : Type 0 where
-  pub shown : r .shown ≡ shown (pictureAt t at)
-  pub leaves : r .leaves ≡ (always || not (isMarked (pictureAt t at .mark)))
-  pub pics : pictures t′ (r .stored) ≡ handsOut (r .leaves) (pictureAt t at) (pictures t n) .pics
-  pub few : r .stored ≤ n
-  pub tidy : Tidy t n → Tidy t′ (r .stored)
+-- the pictures of a serial have left, or stayed and no longer wait
+abbrev pub withoutIt : Bool → Serial → List Picture → List Picture
+withoutIt leaves n ps = cond leaves (keep (other n) ps) (map (done (n .0)) ps)
 
--- what a call has done: the pictures left in the store, and the whole tail; a normal form is kept
-pub record Leaves (m : Moved) (t t′ : List ℕ) (x : Tail) : Type 0 where
+pub record Bumps (ps : List Picture) (n : ℕ) (serial : Serial) (leaves : Bool) (latency : ℕ) (r : Turn) : Type 0 where
+  pub pics : front (r .places) (r .len) ≡ withoutIt leaves serial (front ps n)
+  pub few : r .len ≤ n
+  pub scan : Scans (r .places) (r .len) latency (r .scan)
+
+-- what a call has done to the words that a store is lent in: the pictures left in it, and the whole tail; a normal form is kept
+pub record Leaves (m : Output.Moved) (t t′ : List ℕ) (x : Moved) : Type 0 where
   pub pics : stored t′ ≡ m .pics
   pub tail : HoldsTail x (m .tail)
   pub normal : NormalForm t → NormalForm t′

@@ -2,8 +2,8 @@
 -- on unless its word is 0, and a mark that is no number of one is none.
 use Prim.Native.Nat.{ℕ, _+_, _*_, _≤_, _<_, min}
 use mathlib.Core.Path.{_≡_}
-use mathlib.Core.Bool.{Bool, false, cond, not}
-use mathlib.Core.List.{List, [], _∷_, map}
+use mathlib.Core.Bool.{Bool, cond, not}
+use mathlib.Core.List.{List, [], _∷_}
 use lib.ListN.{getD}
 use lib.Dec.{eqb}
 use mir.Syntax.{w32}
@@ -86,16 +86,3 @@ pub record Puts (i : ℕ) (p : Picture) (before after : List ℕ) : Type 0 where
   pub others : (j : ℕ) → (j ≡ i → ⊥) → pictureAt after j ≡ pictureAt before j
   pub count : word after 96 ≡ word before 96
   pub neat : ((j : ℕ) → j < 16 → Neat before j) → (j : ℕ) → j < 16 → Neat after j
-
--- each stored picture changed where it stands
-pub record Changes (g : Picture → Picture) (before after : List ℕ) : Type 0 where
-  pub pics : stored after ≡ map g (stored before)
-  pub count : word after 96 ≡ word before 96
-  pub normal : NormalForm before → NormalForm after
-
--- "it no longer waits", and a count
-abbrev pub quieted : Picture → Picture
-quieted p = record { serial = p .serial; surface = p .surface; poc = p .poc; mark = p .mark; waiting = false; count = p .count }
-
-abbrev pub recounted : ℕ → Picture → Picture
-recounted n p = record { serial = p .serial; surface = p .surface; poc = p .poc; mark = p .mark; waiting = p .waiting; count = n }

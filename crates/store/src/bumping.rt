@@ -1,29 +1,36 @@
 // Handing out (C.5.2.2 to C.5.2.4).
 ghost use mathlib.Core.Path.{_≡_};
+ghost use mathlib.Core.Bool.{not, _||_};
 ghost use lib.Signed.{ltZ};
 ghost use Prim.Native.Nat.{_+_, _≤_, _<_};
-ghost use Rattle.paper.specs.Output.{andThen};
-ghost use Rattle.store.specs.Shelf.{Tidy};
-ghost use Rattle.store.specs.Tails.{GoodReleased, startedIn, Gathers};
-ghost use Rattle.store.specs.Bumps.{Scans, seenBy, dueBy, dueScan, alwaysBy, latencyBy, turnsBy, Bumps};
+ghost use Rattle.paper.specs.Output.{andThen, shown};
+ghost use Rattle.paper.specs.State.{isMarked};
+ghost use Rattle.store.specs.Places.{front};
+ghost use Rattle.store.specs.Tails.{GoodReleased, startedIn, HoldsMoved};
+ghost use Rattle.store.specs.Bumps.{Scans, nothingSeen, lowerBy, seenBy, dueBy, dueScan, dueNow, alwaysBy, latencyBy, turnsBy, Bumps};
 use crate::Handed;
+use crate::Moved;
 use crate::Released;
 use crate::Store;
-use crate::changing::end_waiting;
-use crate::leaving::leave;
+use crate::Thrown;
+use crate::pictures::end_waiting;
 use crate::pictures::is_marked;
-use crate::places::picture_at;
 use paper::Limits;
 use paper::Picture;
+use paper::Serial;
 use paper::Shown;
 
-// What one walk over the pictures finds: how many wait, whether one of them is late, and the place and the POC of the lowest, the
-// earlier stored one on a tie.
+// The lowest waiting picture: its place and its POC, of two with one POC the earlier stored.
+pub enum Lowest {
+    Nothing,
+    At(usize, i32),
+}
+
+// What one walk over the pictures finds: how many wait, whether one of them is late, and the lowest.
 pub struct Scan {
     pub waiting: usize,
     pub late: bool,
-    pub at: usize,
-    pub poc: i32,
+    pub lowest: Lowest,
 }
 
 // How long pictures are handed out: while one waits, each leaving even if marked; or while one is due, with the buffering test
@@ -33,28 +40,48 @@ pub enum Rule {
     Due(Limits, bool),
 }
 
-// One picture handed out: what the tail tells of it, whether it left, and how many places are used then.
-pub struct Bumped {
-    pub shown: Shown,
-    pub leaves: bool,
-    pub stored: usize,
+// A store after one picture is handed out, and what a walk over it finds.
+pub struct Turn {
+    pub places: [Picture; Store::CAPACITY],
+    pub len: usize,
+    pub scan: Scan,
 }
 
-// Pictures handed out: how many places are used then, and the two parts of the tail so far.
-pub struct Round {
-    pub stored: usize,
-    pub handed: Handed,
-    pub released: Released,
+// Nothing seen yet.
+fn nothing_seen() -> Scan
+    ensures { λ r. ⌜ r ≡ nothingSeen ⌝ }
+{
+    Scan {
+        waiting: 0,
+        late: false,
+        lowest: Lowest::Nothing,
+    }
 }
 
 // Whether a POC is lower than another.
-fn lower(a: i32, b: i32) -> bool
+fn is_lower(a: i32, b: i32) -> bool
     ensures { λ r. ⌜ r ≡ ltZ a b ⌝ }
 {
     a < b
 }
 
-// A picture more: the lowest so far if it waits and is the first that does, or lower than that.
+// The lowest, with one more at place i.
+fn lower(x: Lowest, i: usize, poc: i32) -> Lowest
+    ensures { λ r. ⌜ r ≡ lowerBy x i poc ⌝ }
+{
+    match x {
+        Lowest::Nothing => Lowest::At(i, poc),
+        Lowest::At(at, least) => {
+            if is_lower(poc, least) {
+                Lowest::At(i, poc)
+            } else {
+                Lowest::At(at, least)
+            }
+        }
+    }
+}
+
+// A picture more, at place i.
 fn seen(c: Scan, i: usize, p: Picture, latency: u32) -> Scan
     requires { ⌜ c .waiting < 16 ⌝ }
     ensures { λ r. ⌜ r ≡ seenBy c i p latency ⌝ }
@@ -62,38 +89,27 @@ fn seen(c: Scan, i: usize, p: Picture, latency: u32) -> Scan
     if !p.waiting {
         return c;
     }
-    let late = c.late | (latency <= p.count);
-    if (c.waiting == 0) | lower(p.poc, c.poc) {
-        Scan {
-            waiting: c.waiting + 1,
-            late,
-            at: i,
-            poc: p.poc,
-        }
-    } else {
-        Scan {
-            waiting: c.waiting + 1,
-            late,
-            at: c.at,
-            poc: c.poc,
-        }
+    let x = c.lowest;
+    Scan {
+        waiting: c.waiting + 1,
+        late: c.late | (latency <= p.count),
+        lowest: lower(x, i, p.poc),
     }
 }
 
 // The waiting picture with the lowest POC, the earlier stored one on a tie, and what the tests of due ask for, of the first n.
-fn find_lowest_poc_for_bumping(t: &[u32; Store::WORDS], n: usize, latency: u32) -> Scan
+pub(crate) fn find_lowest_poc_for_bumping(
+    places: [Picture; Store::CAPACITY],
+    n: usize,
+    latency: u32,
+) -> Scan
     requires { ⌜ n ≤ 16 ⌝ }
-    ensures { λ r. ⌜ Scans (now (t .entry)) n latency r ⌝ }
+    ensures { λ r. ⌜ Scans places n latency r ⌝ }
 {
-    let mut c = Scan {
-        waiting: 0,
-        late: false,
-        at: 0,
-        poc: 0,
-    };
+    let mut c = nothing_seen();
     let mut i: usize = 0;
     while i < n {
-        let p = picture_at(t, i);
+        let p = places[i];
         c = seen(c, i, p, latency);
         i += 1;
     }
@@ -122,6 +138,13 @@ fn needs_bumping(rule: Rule, c: Scan, stored: usize) -> bool
     }
 }
 
+// Whether a picture is to be handed out: one waits and is due.
+pub(crate) fn is_due(rule: Rule, c: Scan, stored: usize) -> bool
+    ensures { λ r. ⌜ r ≡ dueNow rule c stored ⌝ }
+{
+    (0 < c.waiting) & needs_bumping(rule, c, stored)
+}
+
 // Whether a picture that is handed out leaves even if marked.
 fn leaves_always(rule: Rule) -> bool
     ensures { λ r. ⌜ r ≡ alwaysBy rule ⌝ }
@@ -133,7 +156,7 @@ fn leaves_always(rule: Rule) -> bool
 }
 
 // The latency by which a picture is late.
-fn latency_of(rule: Rule) -> u32
+pub(crate) fn latency_of(rule: Rule) -> u32
     ensures { λ r. ⌜ r ≡ latencyBy rule ⌝ }
 {
     match rule {
@@ -142,74 +165,105 @@ fn latency_of(rule: Rule) -> u32
     }
 }
 
-// The picture at a place of the first n is handed out ("bumping", C.5.2.4): it leaves if it is unmarked, or always; else it stays and no longer waits.
-fn bump(t: &mut [u32; Store::WORDS], n: usize, at: usize, always: bool) -> Bumped
-    requires { ⌜ (at < n) × (n ≤ 16) ⌝ }
-    ensures { λ r. ⌜ Bumps always at (now (t .entry)) n (now (t .exit)) r ⌝ }
+// Whether a picture that is handed out leaves: always, or if it is unmarked.
+fn leaves(rule: Rule, p: Picture) -> bool
+    ensures { λ r. ⌜ r ≡ (alwaysBy rule || not (isMarked (p .mark))) ⌝ }
 {
-    let p = picture_at(t, at);
+    let m = p.mark;
+    leaves_always(rule) | !is_marked(m)
+}
+
+// What the tail tells of a picture handed out.
+fn shown_of(p: Picture) -> Shown
+    ensures { λ r. ⌜ r ≡ shown p ⌝ }
+{
     let serial = p.serial;
     let surface = p.surface;
-    let m = p.mark;
-    let shown = Shown {
+    Shown {
         serial,
         surface,
         poc: p.poc,
-    };
-    if always | !is_marked(m) {
-        let stored = leave(t, n, serial);
-        return Bumped {
-            shown,
-            leaves: true,
-            stored,
-        };
-    }
-    end_waiting(t, n, serial);
-    Bumped {
-        shown,
-        leaves: false,
-        stored: n,
     }
 }
 
-// Pictures are handed out by a rule while one waits: as many turns as are stored, which is enough, since a turn hands one out or is the
-// last (C.5.2.2, C.5.2.3).
-pub(crate) fn bump_as_needed(
-    t: &mut [u32; Store::WORDS],
+// The pictures of a serial are handed out, of the first n ("bumping", C.5.2.4): they leave, or stay and no longer wait. The walk sees the others.
+fn bump(
+    ps: [Picture; Store::CAPACITY],
     n: usize,
-    rule: Rule,
-    x: Released,
-) -> Round
-    requires { ⌜ GoodReleased x × (n ≤ 16) × (x .len + n ≤ 17) ⌝ }
-    ensures moved { λ r. ⌜ Gathers (now (t .exit)) (r .stored) (r .handed) (r .released) (andThen (startedIn (now (t .entry)) n x) (turnsBy rule)) ⌝ }
-    ensures tidy { λ r. ⌜ (Tidy (now (t .entry)) n → Tidy (now (t .exit)) (r .stored)) ⌝ }
+    serial: Serial,
+    leaves: bool,
+    latency: u32,
+) -> Turn
+    requires { ⌜ n ≤ 16 ⌝ }
+    ensures { λ r. ⌜ Bumps ps n serial leaves latency r ⌝ }
 {
-    let mut stored = n;
-    let mut handed = Handed::none();
-    let mut released = x;
+    let mut places = ps;
+    let mut scan = nothing_seen();
+    let mut k: usize = 0;
     let mut i: usize = 0;
     while i < n {
-        let s = find_lowest_poc_for_bumping(t, stored, latency_of(rule));
-        if (s.waiting == 0) | !needs_bumping(rule, s, stored) {
+        let p = places[i];
+        let x = p.serial;
+        let is = serial.0 == x.0;
+        if !(is & leaves) {
+            let q = end_waiting(p, is);
+            scan = seen(scan, k, q, latency);
+            places[k] = q;
+            k += 1;
+        }
+        i += 1;
+    }
+    Turn {
+        places,
+        len: k,
+        scan,
+    }
+}
+
+// Pictures are handed out by a rule while one waits and is due, from what a walk over the first n found on: as many turns as are stored,
+// which is enough, since a turn hands one out or is the last (C.5.2.2, C.5.2.3).
+pub(crate) fn bump_as_needed(
+    ps: [Picture; Store::CAPACITY],
+    n: usize,
+    x: Released,
+    rule: Rule,
+    first: Scan,
+) -> Moved
+    requires { ⌜ GoodReleased x × (n ≤ 16) × (x .len + n ≤ 17) × Scans ps n (latencyBy rule) first ⌝ }
+    ensures { λ r. ⌜ HoldsMoved r (andThen (startedIn ps n x) (turnsBy rule)) ⌝ }
+{
+    let mut places = ps;
+    let mut len = n;
+    let mut handed = Handed::none();
+    let mut released = x;
+    let latency = latency_of(rule);
+    let mut c = first;
+    let mut i: usize = 0;
+    while i < n {
+        let low = c.lowest;
+        let Lowest::At(at, poc) = low else {
+            break;
+        };
+        if !needs_bumping(rule, c, len) {
             break;
         }
-        let b = bump(t, stored, s.at, leaves_always(rule));
-        let shown = b.shown;
+        let p = places[at];
+        let serial = p.serial;
+        let surface = p.surface;
+        let goes = leaves(rule, p);
         let k = handed.len;
-        handed.items[k] = shown;
+        handed.items[k] = shown_of(p);
         handed.len = k + 1;
-        if b.leaves {
-            let surface = shown.surface;
+        if goes {
             let j = released.len;
             released.items[j] = surface;
             released.len = j + 1;
         }
-        stored = b.stored;
+        let t = bump(places, len, serial, goes, latency);
+        places = t.places;
+        len = t.len;
+        c = t.scan;
         i += 1;
     }
-    Round {
-        stored,
-        handed,
-        released,
-    }
+    Moved::of(places, len, handed, Thrown::none(), released)
 }

@@ -1,56 +1,40 @@
-// Step 5 of begin, finish, drain, discard and what abandon drops: whole operations on a store, each with its tail.
+// Step 5 of begin, finish, drain, discard and what abandon drops: whole operations on a store by value, each with its tail.
 ghost use mathlib.Core.Path.{_≡_};
-ghost use mathlib.Core.Bool.{true};
-ghost use mathlib.Core.List.{[], _∷_, _++_, map};
-ghost use lib.ListN.{length};
-ghost use Prim.Native.Nat.{_+_, _≤_, _<_};
-ghost use Rattle.paper.specs.State.{isCurrent};
+ghost use mathlib.Core.Bool.{true, false};
+ghost use mathlib.Core.List.{[], _∷_, _++_};
+ghost use Prim.Native.Nat.{_+_, _≤_, min};
 ghost use Rattle.paper.specs.Output.{andThen, handWhile, due, removed, emptied, cleared, beforeDecoding};
-ghost use Rattle.paper.specs.Calls.{raised, stored as storedBy, finished, drained, dropped, discarded};
-ghost use Rattle.store.specs.Shelf.{pictures, stored, Tidy, NormalForm};
-ghost use Rattle.store.specs.Tails.{HoldsTail, movedIn, startedIn, Gathers, clearedIn, handedIn, thrownIn, releasedIn, GoodHanded, GoodThrown, GoodReleased, GoodTail};
-ghost use Rattle.store.specs.Bumps.{Leaves};
+ghost use Rattle.paper.specs.Calls.{stored as storedBy, dropped, discarded};
+ghost use Rattle.store.specs.Places.{front};
+ghost use Rattle.store.specs.Tails.{HoldsMoved, HoldsTail, GoodMoved, GoodReleased, startedIn, movedBy, Follows};
 use crate::Handed;
+use crate::Moved;
 use crate::Released;
 use crate::Store;
-use crate::Tail;
 use crate::Thrown;
-use crate::bumping::Round;
 use crate::bumping::Rule;
 use crate::bumping::bump_as_needed;
-use crate::changing::raise_counts;
-use crate::leaving::release;
+use crate::bumping::find_lowest_poc_for_bumping;
+use crate::bumping::is_due;
+use crate::bumping::latency_of;
+use crate::leaving::release_all;
 use crate::leaving::remove_unused;
-use crate::leaving::throw;
-use crate::places::blank_from;
-use crate::places::count_words;
-use crate::places::put_picture;
-use crate::places::used_places;
+use crate::leaving::throw_waiting;
 use paper::Current;
 use paper::Limits;
 use paper::Mark;
 use paper::Now;
 use paper::Picture;
 
-// The first n places are the store.
-fn set_used(t: &mut [u32; Store::WORDS], n: usize)
-    requires { ⌜ n ≤ 16 ⌝ }
-    ensures pics { λ _. ⌜ stored (now (t .exit)) ≡ pictures (now (t .entry)) n ⌝ }
-    ensures normal { λ _. ⌜ (Tidy (now (t .entry)) n → NormalForm (now (t .exit))) ⌝ }
+// The stored pictures, and the current one behind them: short-term, count 0, waiting if its output flag is 1 (C.5.2.3). Where every place
+// is used it takes the last one.
+fn store_picture(s: Store, c: Current) -> Store
+    ensures { λ r. ⌜ (r .len ≡ min (s .len) 15 + 1) × (front (r .places) (r .len) ≡ front (s .places) (min (s .len) 15) ++ (storedBy c ∷ [])) ⌝ }
 {
-    count_words(*t);
-    t[96] = n as u32;
-}
-
-// The current picture joins the first n, whose counts rise: short-term, count 0, waiting if its output flag is 1 (C.5.2.3).
-fn store_picture(t: &mut [u32; Store::WORDS], n: usize, c: Current)
-    requires { ⌜ n < 16 ⌝ }
-    ensures pics { λ _. ⌜ pictures (now (t .exit)) (n + 1) ≡ map raised (pictures (now (t .entry)) n) ++ (storedBy c ∷ []) ⌝ }
-    ensures tidy { λ _. ⌜ (Tidy (now (t .entry)) n → Tidy (now (t .exit)) (n + 1)) ⌝ }
-{
+    let mut places = s.places;
+    let n = s.len;
     let serial = c.serial;
     let surface = c.surface;
-    raise_counts(t, n);
     let p = Picture {
         serial,
         surface,
@@ -59,202 +43,181 @@ fn store_picture(t: &mut [u32; Store::WORDS], n: usize, c: Current)
         waiting: c.output,
         count: 0,
     };
-    put_picture(t, n, p);
-}
-
-// The current picture is stored behind the first n, and others are handed out while due, without the buffering test.
-fn finish_at(t: &mut [u32; Store::WORDS], n: usize, c: Current, l: Limits) -> Round
-    requires { ⌜ n < 16 ⌝ }
-    ensures moved { λ r. ⌜ Gathers (now (t .exit)) (r .stored) (r .handed) (r .released) (finished l (pictures (now (t .entry)) n) c) ⌝ }
-    ensures tidy { λ r. ⌜ (Tidy (now (t .entry)) n → Tidy (now (t .exit)) (r .stored)) ⌝ }
-{
-    store_picture(t, n, c);
-    let rule = Rule::Due(l, false);
-    bump_as_needed(t, n + 1, rule, Released::none())
-}
-
-// The places that are used then are the store, and nothing was thrown away.
-fn close(t: &mut [u32; Store::WORDS], r: Round) -> Tail
-    requires { ⌜ Gathers (now t) (r .stored) (r .handed) (r .released) (movedIn (now t) (r .stored) (r .handed) (r .released)) ⌝ }
-    ensures tail { λ x. ⌜ HoldsTail x (movedIn (now (t .entry)) (r .stored) (r .handed) (r .released) .tail) ⌝ }
-    ensures pics { λ _. ⌜ stored (now (t .exit)) ≡ pictures (now (t .entry)) (r .stored) ⌝ }
-    ensures normal { λ _. ⌜ (Tidy (now (t .entry)) (r .stored) → NormalForm (now (t .exit))) ⌝ }
-{
-    set_used(t, r.stored);
-    let handed = r.handed;
-    let released = r.released;
-    Tail {
-        handed,
-        thrown: Thrown::none(),
-        released,
+    let at = if n < Store::CAPACITY {
+        n
+    } else {
+        Store::CAPACITY - 1
+    };
+    places[at] = p;
+    Store {
+        places,
+        len: at + 1,
     }
 }
 
-// Nothing is stored any more, of the first n.
-fn forget(t: &mut [u32; Store::WORDS], n: usize)
-    requires { ⌜ n ≤ 16 ⌝ }
-    ensures pics { λ _. ⌜ stored (now (t .exit)) ≡ [] ⌝ }
-    ensures normal { λ _. ⌜ (Tidy (now (t .entry)) n → NormalForm (now (t .exit))) ⌝ }
+// A store of which nothing has gone but these surfaces.
+pub(crate) fn untouched(places: [Picture; Store::CAPACITY], len: usize, x: Released) -> Moved
+    requires { ⌜ GoodReleased x × (len ≤ 16) ⌝ }
+    ensures { λ r. ⌜ HoldsMoved r (startedIn places len x) ⌝ }
 {
-    blank_from(t, 0, n);
-    set_used(t, 0);
+    Moved::of(places, len, Handed::none(), Thrown::none(), x)
 }
 
-// All that wait of the first n are handed out, each leaving even if marked; then those that are left leave, behind those released so far.
-fn empty_out(t: &mut [u32; Store::WORDS], n: usize, x: Released) -> Tail
-    requires { ⌜ GoodReleased x × (n ≤ 16) × (x .len + n ≤ 17) ⌝ }
-    ensures tail { λ r. ⌜ HoldsTail r (andThen (startedIn (now (t .entry)) n x) emptied .tail) ⌝ }
-    ensures pics { λ _. ⌜ stored (now (t .exit)) ≡ [] ⌝ }
-    ensures normal { λ _. ⌜ (Tidy (now (t .entry)) n → NormalForm (now (t .exit))) ⌝ }
+// A store of which nothing has gone.
+pub(crate) fn start(s: Store) -> Moved
+    requires { ⌜ s .len ≤ 16 ⌝ }
+    ensures { λ r. ⌜ HoldsMoved r (record { pics = front (s .places) (s .len); tail = record { handed = []; thrown = []; released = [] } }) ⌝ }
 {
-    let u = bump_as_needed(t, n, Rule::All, x);
-    let handed = u.handed;
-    let freed = u.released;
-    let released = release(t, u.stored, true, freed);
-    forget(t, u.stored);
-    Tail {
-        handed,
-        thrown: Thrown::none(),
-        released,
-    }
+    let places = s.places;
+    untouched(places, s.len, Released::none())
+}
+
+// All that wait are handed out, each leaving even if marked; then those that are left leave, behind those released so far.
+fn empty_out(s: Store, x: Released) -> Moved
+    requires { ⌜ GoodReleased x × (s .len ≤ 16) × (x .len + s .len ≤ 17) ⌝ }
+    ensures { λ r. ⌜ HoldsMoved r (andThen (startedIn (s .places) (s .len) x) emptied) ⌝ }
+{
+    let places = s.places;
+    let n = s.len;
+    let rule = Rule::All;
+    let c = find_lowest_poc_for_bumping(places, n, latency_of(rule));
+    release_all(bump_as_needed(places, n, x, rule, c))
 }
 
 // The store is cleared: those that wait are thrown away, all are released, behind what the tail has so far.
-fn clear(t: &mut [u32; Store::WORDS], n: usize, y: Thrown, x: Released) -> Tail
-    requires { ⌜ GoodThrown y × GoodReleased x × (n ≤ 16) × (y .len ≤ 1) × (x .len ≤ 1) ⌝ }
-    ensures tail { λ r. ⌜ HoldsTail r (andThen (clearedIn (now (t .entry)) n y x) cleared .tail) ⌝ }
-    ensures pics { λ _. ⌜ stored (now (t .exit)) ≡ [] ⌝ }
-    ensures normal { λ _. ⌜ (Tidy (now (t .entry)) n → NormalForm (now (t .exit))) ⌝ }
+fn clear(m: Moved) -> Moved
+    requires { ⌜ GoodMoved m × (m .dropped ≤ 1) × (m .freed ≤ 1) ⌝ }
+    ensures { λ r. ⌜ HoldsMoved r (andThen (movedBy m) cleared) ⌝ }
 {
-    let thrown = throw(t, n, y);
-    let released = release(t, n, true, x);
-    forget(t, n);
-    Tail {
-        handed: Handed::none(),
-        thrown,
-        released,
-    }
+    release_all(throw_waiting(m))
 }
 
 // The unused pictures are removed and others handed out while due.
-fn make_room(t: &mut [u32; Store::WORDS], l: Limits) -> Tail
-    ensures { λ r. ⌜ Leaves (andThen (removed (stored (now (t .entry)))) (handWhile (due true l))) (now (t .entry)) (now (t .exit)) r ⌝ }
+fn make_room(s: Store, l: Limits) -> Moved
+    requires { ⌜ s .len ≤ 16 ⌝ }
+    ensures { λ r. ⌜ HoldsMoved r (andThen (removed (front (s .places) (s .len))) (handWhile (due true l))) ⌝ }
 {
-    let n = used_places(t);
-    let freed = release(t, n, false, Released::none());
-    let k = remove_unused(t, n);
-    let r = bump_as_needed(t, k, Rule::Due(l, true), freed);
-    close(t, r)
+    let f = remove_unused(s);
+    let places = f.places;
+    let n = f.len;
+    let freed = f.released;
+    let rule = Rule::Due(l, true);
+    let c = find_lowest_poc_for_bumping(places, n, latency_of(rule));
+    if is_due(rule, c, n) {
+        bump_as_needed(places, n, freed, rule, c)
+    } else {
+        untouched(places, n, freed)
+    }
 }
 
 // Step 5 of begin (C.5.2.2): a picture that starts over clears or empties the store; before any other the unused pictures are
 // removed and others handed out while due.
-pub fn update_dpb_before_decoding(
-    t: &mut [u32; Store::WORDS],
-    starts: bool,
-    no_prior: bool,
-    l: Limits,
-) -> Tail
-    ensures { λ r. ⌜ Leaves (beforeDecoding starts «no_prior» l (stored (now (t .entry)))) (now (t .entry)) (now (t .exit)) r ⌝ }
+pub(crate) fn update_dpb_before_decoding(s: Store, starts: bool, no_prior: bool, l: Limits) -> Moved
+    requires { ⌜ s .len ≤ 16 ⌝ }
+    ensures { λ r. ⌜ HoldsMoved r (beforeDecoding starts «no_prior» l (front (s .places) (s .len))) ⌝ }
 {
     if !starts {
-        return make_room(t, l);
+        return make_room(s, l);
     }
-    let n = used_places(t);
     if no_prior {
-        clear(t, n, Thrown::none(), Released::none())
+        clear(start(s))
     } else {
-        empty_out(t, n, Released::none())
+        empty_out(s, Released::none())
     }
 }
 
-// Finish (C.5.2.3): counts rise, the picture is stored, and others are handed out while due, without the buffering test.
-pub fn finish_picture(t: &mut [u32; Store::WORDS], c: Current, l: Limits) -> Tail
-    requires { ⌜ length (stored (now t)) < 16 ⌝ }
-    ensures { λ r. ⌜ Leaves (finished l (stored (now (t .entry))) c) (now (t .entry)) (now (t .exit)) r ⌝ }
+// Finish (C.5.2.3), where the counts have risen: the picture is stored, and others are handed out while due, without the buffering test.
+pub(crate) fn finish_picture(s: Store, c: Current, l: Limits) -> Moved
+    requires { ⌜ s .len ≤ 16 ⌝ }
+    ensures { λ r. ⌜ HoldsMoved r (handWhile (due false l) (front (s .places) (min (s .len) 15) ++ (storedBy c ∷ []))) ⌝ }
 {
-    let n = used_places(t);
-    let r = finish_at(t, n, c, l);
-    close(t, r)
+    let t = store_picture(s, c);
+    let places = t.places;
+    let n = t.len;
+    let rule = Rule::Due(l, false);
+    let f = find_lowest_poc_for_bumping(places, n, latency_of(rule));
+    bump_as_needed(places, n, Released::none(), rule, f)
 }
 
-// What was handed out before stands in front of what a tail hands out.
-fn after(h: Handed, y: Tail) -> Tail
-    requires { ⌜ GoodHanded h × GoodTail y × (h .len + y .handed .len ≤ 16) ⌝ }
-    ensures { λ r. ⌜ HoldsTail r (record { handed = handedIn h ++ handedIn (y .handed); thrown = thrownIn (y .thrown); released = releasedIn (y .released) }) ⌝ }
+// What was handed out before stands in front of what is handed out then.
+fn after(x: Moved, y: Moved) -> Moved
+    requires { ⌜ GoodMoved x × GoodMoved y × (x .shown + y .shown ≤ 16) ⌝ }
+    ensures { λ r. ⌜ Follows x y r ⌝ }
 {
-    let more = y.handed;
-    let items = more.items;
-    let n = more.len;
-    let mut handed = h;
+    let mut r = y;
+    let mut handed = x.handed;
+    let mut k = x.shown;
+    let n = y.shown;
     let mut i: usize = 0;
     while i < n {
-        let shown = items[i];
-        let k = handed.len;
-        handed.items[k] = shown;
-        handed.len = k + 1;
+        let p = y.handed[i];
+        handed[k] = p;
+        k += 1;
         i += 1;
     }
-    let thrown = y.thrown;
-    let released = y.released;
-    Tail {
-        handed,
-        thrown,
-        released,
-    }
+    r.handed = handed;
+    r.shown = k;
+    r
 }
 
-// Drain: a current picture is finished, then the store is emptied.
-pub fn drain(t: &mut [u32; Store::WORDS], x: Now, l: Limits) -> Tail
-    requires { ⌜ (isCurrent x ≡ true → length (stored (now t)) < 16) ⌝ }
-    ensures { λ r. ⌜ Leaves (drained l (stored (now (t .entry))) x) (now (t .entry)) (now (t .exit)) r ⌝ }
+// A current picture is finished, then the store is emptied.
+pub(crate) fn finish_and_drain(s: Store, c: Current, l: Limits) -> Moved
+    requires { ⌜ s .len ≤ 16 ⌝ }
+    ensures { λ r. ⌜ HoldsMoved r (andThen (handWhile (due false l) (front (s .places) (min (s .len) 15) ++ (storedBy c ∷ []))) emptied) ⌝ }
 {
-    let n = used_places(t);
-    match x {
-        Now::Idle => empty_out(t, n, Released::none()),
-        Now::Is(c) => {
-            let r = finish_at(t, n, c, l);
-            let handed = r.handed;
-            let released = r.released;
-            let y = empty_out(t, r.stored, released);
-            after(handed, y)
-        }
-    }
+    let m = finish_picture(s, c, l);
+    let left = m.places;
+    let items = m.released;
+    let released = Released {
+        items,
+        len: m.freed,
+    };
+    let rest = Store {
+        places: left,
+        len: m.len,
+    };
+    after(m, empty_out(rest, released))
 }
 
-// The current picture is thrown away, if it was to be handed out, and released (abandon): the tail alone.
-pub fn drop_current(c: Current) -> Tail
-    ensures { λ r. ⌜ HoldsTail r (dropped c) ⌝ }
+// Drain, with no current picture: the store is emptied.
+pub(crate) fn drain(s: Store) -> Moved
+    requires { ⌜ s .len ≤ 16 ⌝ }
+    ensures { λ r. ⌜ HoldsMoved r (emptied (front (s .places) (s .len))) ⌝ }
 {
-    let mut thrown = Thrown::none();
-    let mut released = Released::none();
+    empty_out(s, Released::none())
+}
+
+// The current picture is thrown away, if it was to be handed out, and released; the store stays.
+fn drop_current(s: Store, c: Current) -> Moved
+    requires { ⌜ s .len ≤ 16 ⌝ }
+    ensures { λ r. ⌜ HoldsMoved r (record { pics = front (s .places) (s .len); tail = dropped c }) ⌝ }
+{
+    let mut m = start(s);
     let surface = c.surface;
-    released.items[0] = surface;
-    released.len = 1;
+    m.released[0] = surface;
+    m.freed = 1;
     if c.output {
         let serial = c.serial;
-        thrown.items[0] = serial;
-        thrown.len = 1;
+        m.thrown[0] = serial;
+        m.dropped = 1;
     }
-    Tail {
-        handed: Handed::none(),
-        thrown,
-        released,
-    }
+    m
+}
+
+// Abandon: what it drops, the tail alone.
+pub fn abandon(c: Current) -> Moved
+    ensures { λ r. ⌜ HoldsTail r (dropped c) ⌝ }
+{
+    drop_current(Store::empty(), c)
 }
 
 // Discard: the current picture is thrown away and released first, then the store is cleared.
-pub fn discard(t: &mut [u32; Store::WORDS], x: Now) -> Tail
-    ensures { λ r. ⌜ Leaves (discarded (stored (now (t .entry))) x) (now (t .entry)) (now (t .exit)) r ⌝ }
+pub(crate) fn discard(s: Store, x: Now) -> Moved
+    requires { ⌜ s .len ≤ 16 ⌝ }
+    ensures { λ r. ⌜ HoldsMoved r (discarded (front (s .places) (s .len)) x) ⌝ }
 {
-    let n = used_places(t);
     match x {
-        Now::Idle => clear(t, n, Thrown::none(), Released::none()),
-        Now::Is(c) => {
-            let d = drop_current(c);
-            let thrown = d.thrown;
-            let released = d.released;
-            clear(t, n, thrown, released)
-        }
+        Now::Idle => clear(start(s)),
+        Now::Is(c) => clear(drop_current(s, c)),
     }
 }

@@ -1,35 +1,39 @@
 // Layer 2, the stored pictures: searches, marks, handing out, removal and emptying (8.3.2, C.5.2). It knows nothing of records and
-// replies. The places of a store are lent words; any words may be given: a length over 16 counts as 16, and a picture is told by its serial.
+// replies. A store is sixteen picture records and how many are used; it is worked on by value. Only `words` knows the words that a host
+// lends a store in: any words may be given, a length over 16 counts as 16, and a picture is told by its serial.
 mod bumping;
-mod changing;
 mod ending;
 mod leaving;
 mod lent;
+mod marking;
 mod pictures;
-mod places;
 mod searching;
 mod setting;
+mod words;
 
-pub use ending::discard;
-pub use ending::drain;
-pub use ending::drop_current;
-pub use ending::finish_picture;
-pub use ending::update_dpb_before_decoding;
+pub use ending::abandon;
 pub use lent::find_ref_by_poc_in;
 pub use lent::find_ref_by_poc_masked_in;
 pub use lent::find_short_term_ref_by_poc_in;
 pub use lent::set_mark;
-pub use places::is_full;
-pub use places::used_places;
 pub use searching::find_ref_by_poc;
 pub use searching::find_ref_by_poc_masked;
 pub use searching::find_short_term_ref_by_poc;
-pub use searching::holds_surface;
-pub use setting::derive_and_mark_rps;
+pub use words::derive_and_mark_rps;
+pub use words::discard;
+pub use words::drain;
+pub use words::finish_and_drain;
+pub use words::finish_picture;
+pub use words::forget_all;
+pub use words::holds_surface;
+pub use words::room_in;
+pub use words::update_dpb_before_decoding;
 ghost use mathlib.Core.Path.{_≡_};
 ghost use mathlib.Core.List.{[]};
-ghost use Rattle.store.specs.Shelf.{stored, NormalForm};
-ghost use Rattle.store.specs.Tails.{HoldsHanded, HoldsThrown, HoldsReleased};
+ghost use lib.ListN.{replicate};
+ghost use Rattle.store.specs.Walks.{blank};
+ghost use Rattle.store.specs.Tails.{HoldsHanded, HoldsThrown, HoldsReleased, HoldsParts};
+use paper::Picture;
 use paper::Serial;
 use paper::Shown;
 use paper::Surface;
@@ -52,11 +56,22 @@ pub struct Released {
     pub len: usize,
 }
 
-// A tail: what a call handed out, threw away and released.
-pub struct Tail {
-    pub handed: Handed,
-    pub thrown: Thrown,
-    pub released: Released,
+// A store after a call, and the call's tail: what it handed out, threw away and released, and how many of each.
+pub struct Moved {
+    pub places: [Picture; Store::CAPACITY],
+    pub len: usize,
+    pub handed: [Shown; Store::CAPACITY],
+    pub shown: usize,
+    pub thrown: [Serial; Store::TAIL],
+    pub dropped: usize,
+    pub released: [Surface; Store::TAIL],
+    pub freed: usize,
+}
+
+// Whether a picture more may be stored.
+pub enum Room {
+    Enough,
+    Full,
 }
 
 // The sizes of the five sets (8.3.2).
@@ -68,16 +83,25 @@ pub struct Sizes {
     pub lt_foll: usize,
 }
 
-// A store: its words are lent to all that is done with it.
+// A store after step 4 of begin, and the sets: first StCurrBefore, StCurrAfter and LtCurr, then StFoll and LtFoll, one behind the other.
+pub struct Derived {
+    pub store: Store,
+    pub first: [Serial; Store::CAPACITY],
+    pub second: [Serial; Store::CAPACITY],
+    pub sizes: Sizes,
+}
+
+// A store: its places, of which the first `len` are used, in the order the pictures came.
 pub struct Store {
-    pub words: [u32; Store::WORDS],
+    pub places: [Picture; Store::CAPACITY],
+    pub len: usize,
 }
 
 impl Store {
     // The greatest capacity.
     pub const CAPACITY: usize = derivation::CAPACITY;
 
-    // Sixteen places of six words, and how many are used.
+    // The words that a store is lent in: six for each place, and how many are used.
     pub const WORDS: usize = 97;
 
     // The stored pictures and the current one may go in one call.
@@ -94,11 +118,11 @@ impl Store {
 
     // A store that holds nothing.
     pub fn empty() -> Self
-        ensures holds { λ r. ⌜ stored (r .words) ≡ [] ⌝ }
-        ensures normal { λ r. ⌜ NormalForm (r .words) ⌝ }
+        ensures { λ r. ⌜ r ≡ record { places = replicate 16 blank; len = 0 } ⌝ }
     {
-        let words = [0u32; Store::WORDS];
-        Store { words }
+        let b = pictures::none();
+        let places = [b; Store::CAPACITY];
+        Store { places, len: 0 }
     }
 }
 
@@ -136,5 +160,32 @@ impl Released {
         let b = Surface(0);
         let items = [b; Store::TAIL];
         Released { items, len: 0 }
+    }
+}
+
+impl Moved {
+    // A store, and what has gone of it.
+    pub(crate) fn of(
+        places: [Picture; Store::CAPACITY],
+        len: usize,
+        h: Handed,
+        t: Thrown,
+        r: Released,
+    ) -> Self
+        ensures { λ x. ⌜ HoldsParts x places len h t r ⌝ }
+    {
+        let handed = h.items;
+        let thrown = t.items;
+        let released = r.items;
+        Moved {
+            places,
+            len,
+            handed,
+            shown: h.len,
+            thrown,
+            dropped: t.len,
+            released,
+            freed: r.len,
+        }
     }
 }

@@ -9,7 +9,8 @@ ghost use Rattle.paper.specs.State.{isMarked, isShortTerm, countLimit};
 ghost use Rattle.paper.specs.Numbers.{sameSerial};
 ghost use Rattle.paper.specs.Step.{heldBy};
 ghost use Rattle.paper.specs.Sets.{marked};
-ghost use Rattle.store.specs.Walks.{anyAt, lowAt, shortAt, passing};
+ghost use Rattle.paper.specs.Calls.{raised};
+ghost use Rattle.store.specs.Walks.{anyAt, lowAt, shortAt, passing, blank, changeBy, quieted};
 use derivation::modular::low_bits;
 use paper::Mark;
 use paper::Picture;
@@ -130,4 +131,73 @@ pub(crate) fn next_count(n: u32) -> u32
     ensures { λ r. ⌜ r ≡ cond (ltb n countLimit) (n + 1) countLimit ⌝ }
 {
     if n < COUNT_LIMIT { n + 1 } else { COUNT_LIMIT }
+}
+
+// What is done to each picture of a store that is read from its words: nothing; its count rises by 1; it loses its mark.
+pub enum Change {
+    Nothing,
+    Raise,
+    Unmark,
+}
+
+// No picture: what stands in a place that is not used.
+pub(crate) fn none() -> Picture
+    ensures { λ r. ⌜ r ≡ blank ⌝ }
+{
+    Picture {
+        serial: Serial(0),
+        surface: Surface(0),
+        poc: 0,
+        mark: Mark::Unmarked,
+        waiting: false,
+        count: 0,
+    }
+}
+
+// The picture, whose count has risen by 1 (finish).
+fn raise(p: Picture) -> Picture
+    ensures { λ r. ⌜ r ≡ raised p ⌝ }
+{
+    let serial = p.serial;
+    let surface = p.surface;
+    let mark = p.mark;
+    Picture {
+        serial,
+        surface,
+        poc: p.poc,
+        mark,
+        waiting: p.waiting,
+        count: next_count(p.count),
+    }
+}
+
+// The picture after a change.
+pub(crate) fn read_as(p: Picture, x: Change) -> Picture
+    ensures { λ r. ⌜ r ≡ changeBy x p ⌝ }
+{
+    match x {
+        Change::Nothing => p,
+        Change::Raise => raise(p),
+        Change::Unmark => with_mark(p, Mark::Unmarked),
+    }
+}
+
+// The picture, that no longer waits if it is the one handed out.
+pub(crate) fn end_waiting(p: Picture, is: bool) -> Picture
+    ensures { λ r. ⌜ r ≡ cond is (quieted p) p ⌝ }
+{
+    if !is {
+        return p;
+    }
+    let serial = p.serial;
+    let surface = p.surface;
+    let mark = p.mark;
+    Picture {
+        serial,
+        surface,
+        poc: p.poc,
+        mark,
+        waiting: false,
+        count: p.count,
+    }
 }

@@ -1,12 +1,9 @@
 -- A full store is refused with 9; else the store finishes the picture and its tail is the reply.
-use Prim.Native.Nat.{ℕ, _<_}
+use Prim.Native.Nat.{ℕ}
 use mathlib.Core.Path.{_≡_, sym, _∙_}
-use mathlib.Core.List.{List, []}
-use lib.ListN.{length}
+use mathlib.Core.List.{List}
 use denote.Ref.{now}
 use Rattle.paper.specs.Calls.{full}
-use Rattle.paper.proofs.Fits.{spare}
-use Rattle.store.specs.Shelf.{stored}
 use Rattle.session.specs.View.{memory, sessionIn}
 use Rattle.store.proofs.Ends.{tail-good}
 use Rattle.session.proofs.Saying.{full-is, finish-9, finish-does, idles}
@@ -14,12 +11,9 @@ use borrow.Author.Needs.{needs}
 use Rattle.session.proofs.closing.finish_at.Statement.{statement}
 use Rattle.session.proofs.closing.finish_at.Tie as tie
 
--- the test is the paper's, and behind it is room
+-- the test is the paper's
 tested : (c : tie.After-is-full) (xs : List ℕ) → c .is-full .result ≡ full (sessionIn (memory (now (c .before .before .before .before .before .args .head)) xs (now (c .before .before .before .before .before .args .places))))
 tested c xs = full-is (now (c .before .before .before .before .before .args .head)) xs (now (c .before .before .before .before .before .args .places)) (c .before .before .limits-in .ensures) (c .is-full .ensures)
-
-room : (c : tie.Else1) → length (stored (now (c .before .before .before .before .before .before .args .places))) < 16
-room c = let a = c .before .before .before .before .before .before .args in spare (sessionIn (memory (now (a .head)) [] (now (a .places)))) (sym (tested (c .before) []) ∙ c .if1 .left)
 
 limits-in-requires : tie.Need-limits-in-requires
 limits-in-requires c κs = search needs
@@ -40,7 +34,7 @@ returns c =
     λ xs. finish-9 (now (s .args .head)) xs (now (s .args .places)) (s .args .c) (s .pre .0) (sym (tested (k .before) xs) ∙ k .if1 .taken) (c .before .before .refuse .ensures)
 
 finish-picture-requires : tie.Need-finish-picture-requires
-finish-picture-requires c κs = room (c .before)
+finish-picture-requires c κs = search needs
 
 prev-in-requires : tie.Need-prev-in-requires
 prev-in-requires c κs = search needs

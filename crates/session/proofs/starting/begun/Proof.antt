@@ -1,13 +1,15 @@
--- The marks and the sets are the paper's, and so are the room that is made for the picture, the reply and the words beside the store.
+-- The marks and the sets are the paper's, and so are the room that is made for the picture, the reply, the run of the sets and the words beside the store.
 use Prim.Native.Nat.{_+_}
 use mathlib.Core.Bool.{cond}
 use mathlib.Core.Path.{ap, _∙_}
 use lib.Dec.{eqb}
-use Rattle.paper.specs.declared.Serial.{Serial}
-use Rattle.session.specs.Starts.{currentFrom}
-use Rattle.session.proofs.Begins.{few-members, begun-does}
-use Rattle.session.specs.View.{memory}
 use denote.Ref.{now}
+use Rattle.paper.specs.declared.Serial.{Serial}
+use Rattle.store.specs.Places.{storedIn}
+use Rattle.store.proofs.Ends.{tail-good}
+use Rattle.session.specs.View.{memory}
+use Rattle.session.specs.Starts.{currentFrom, toldFrom}
+use Rattle.session.proofs.Begins.{few-members, tells, begun-does}
 use borrow.Author.Needs.{needs}
 use Rattle.session.proofs.starting.begun.Statement.{statement}
 use Rattle.session.proofs.starting.begun.Tie as tie
@@ -27,39 +29,69 @@ cast-lt c = search needs
 derive-and-mark-rps-requires : tie.Need-derive-and-mark-rps-requires
 derive-and-mark-rps-requires c κs = search needs
 
-count-run-requires : tie.Need-count-run-requires
-count-run-requires c κs = search needs
+is-ended-requires : tie.Need-is-ended-requires
+is-ended-requires c κs = search needs
 
-tell-begun-requires : tie.Need-tell-begun-requires
-tell-begun-requires c κs = (few-members (c .before .before .before .before .before .before .before .derive-and-mark-rps .ensures .sets), c .before .before .before .before .before .before .before .before .before .before .before .before .before .before .before .before .before .before .before .pre .1)
+update-dpb-before-decoding-requires : tie.Need-update-dpb-before-decoding-requires
+update-dpb-before-decoding-requires c κs = search needs
+
+add-put-members : tie.Need-add-put-members
+add-put-members c = search needs
+
+add-put-members-2 : tie.Need-add-put-members-2
+add-put-members-2 c = search needs
+
+put-members-requires : tie.Need-put-members-requires
+put-members-requires c κs = search needs
 
 next-serial-requires : tie.Need-next-serial-requires
 next-serial-requires c κs = search needs
+
+told-of-requires : tie.Need-told-of-requires
+told-of-requires c κs = search needs
+
+put-begun-requires : tie.Need-put-begun-requires
+put-begun-requires c κs =
+    let u = c .before .before .before .before .before .before .before .before in
+    let d = u .before .before .before .before .before .before .before .before in
+    let s = d .before .before .before .before .before .before .before .before .before .before in
+    (few-members (d .derive-and-mark-rps .ensures .sets), (tail-good (u .update-dpb-before-decoding .ensures .tail), s .pre .1))
 
 current-of-requires : tie.Need-current-of-requires
 current-of-requires c κs = search needs
 
 refs-of-requires : tie.Need-refs-of-requires
-refs-of-requires c κs = few-members (c .before .before .before .before .before .before .before .before .before .before .before .before .before .before .derive-and-mark-rps .ensures .sets)
+refs-of-requires c κs = few-members (c .before .before .before .before .before .before .before .before .before .before .before .before .before .before .before .before .before .before .before .before .before .derive-and-mark-rps .ensures .sets)
 
 next-after-requires : tie.Need-next-after-requires
 next-after-requires c κs = search needs
 
-put-begun-requires : tie.Need-put-begun-requires
-put-begun-requires c κs = search needs
+put-begun-requires-2 : tie.Need-put-begun-requires-2
+put-begun-requires-2 c κs = search needs
 
 same-length : tie.Need-same-length
 same-length c = search needs
 
 returns : tie.Need-returns
 returns c =
-    let s = c .before .before .before .before .before .before .before .before .before .before .before .before .before .before .before .before .before .before .before .before .before .before .before .before .before .before .before .before .before in
+    let w = c .before .before .before .before .before .before .before in
+    let n = w .before .before .before in
+    let p = n .before .before .put-members .ensures in
+    let u = n .before .before .before .before .before .before in
+    let d = u .before .before .before .before .before .before .before .before in
+    let l = d .before .before .before .before .before .before in
+    let s = l .before .before .before .before in
     let a = s .args in
-    let e = c .before .before .before .before .before .next-serial .ensures in
-    begun-does (memory (now (a .head)) (now (a .run)) (now (a .places))) (now (a .msg)) (a .h) (a .t) (now (a .pocs)) (now (a .hows)) (s .pre .0) (c .before .before .before .before .before .before .before .before .before .before .before .before .before .before .before .before .before .before .before .before .before .before .before .before .before .limits-in .ensures)
-    (c .before .before .before .before .before .before .before .before .before .before .before .before .before .before .before .before .before .derive-and-mark-rps .ensures) (c .before .before .before .before .before .before .before .before .before .tell-begun .ensures) (c .before .before .before .before .before .before .before .before .before .before .before .before .before .before .before .count-run .ensures .1) (c .put-begun .ensures .0) (c .put-begun .ensures .1)
-    (c .before .before .before .current-of .ensures ∙ ap (λ (n : Serial). currentFrom (n .0) (a .h) (a .t)) e) (c .before .before .refs-of .ensures)
-    (c .before .next-after .ensures ∙ ap (λ (n : Serial). cond (eqb (n .0) 4294967295) 0 (n .0 + 1)) e)
+    let y = d .derive-and-mark-rps .result in
+    let e = n .next-serial .ensures in
+    let t =
+    tells (now (a .head)) (y .first) (y .second) (storedIn (y .store)) (now (a .places)) (a .t) (y .sizes) (l .limits-in .ensures) (u .before .before .is-ended .ensures)
+    (w .before .told-of .ensures ∙ ap (λ (k : Serial). toldFrom (k .0) (a .t)) e) (u .update-dpb-before-decoding .ensures) (w .put-begun .ensures)
+    in
+    begun-does (memory (now (a .head)) (now (a .run)) (now (a .places))) (now (a .msg)) (a .h) (a .t) (now (a .pocs)) (now (a .hows)) (s .pre .0) y (l .limits-in .ensures) (d .derive-and-mark-rps .ensures) t
+    (n .before .before .put-members .last .0) (p .1 .1) (p .0) (p .1 .0) (c .put-begun2 .ensures .0) (c .put-begun2 .ensures .1)
+    (c .before .before .before .current-of .ensures ∙ ap (λ (k : Serial). currentFrom (k .0) (a .h) (a .t)) e) (c .before .before .refs-of .ensures)
+    (c .before .next-after .ensures ∙ ap (λ (k : Serial). cond (eqb (k .0) 4294967295) 0 (k .0 + 1)) e)
 
 pub begun-spec : {M : Type 1} → statement M
 begun-spec =
@@ -70,12 +102,17 @@ begun-spec =
     cast-pos
     cast-lt
     derive-and-mark-rps-requires
-    count-run-requires
-    tell-begun-requires
+    is-ended-requires
+    update-dpb-before-decoding-requires
+    add-put-members
+    add-put-members-2
+    put-members-requires
     next-serial-requires
+    told-of-requires
+    put-begun-requires
     current-of-requires
     refs-of-requires
     next-after-requires
-    put-begun-requires
+    put-begun-requires-2
     same-length
     returns)

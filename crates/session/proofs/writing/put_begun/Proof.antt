@@ -25,7 +25,7 @@ put-members-requires c κs = search needs
 put-tail-requires : tie.Need-put-tail-requires
 put-tail-requires c κs =
     let s = c .before .before .before .before .before .before .before .before .before .before .before .before .before .before in
-    let m : c .before .before .before .put-members .result ≤ 84 = omega (arith, members-room (s .args .x) (now (s .args .us)) (now (s .args .vs)) (s .pre .0), c .before .before .before .before .before .before .before .before .before .before .before .put-told .ensures .0, c .before .before .before .before .before .before .before .put-sizes .ensures .0, c .before .before .before .put-members .ensures .0) in
+    let m : c .before .before .before .put-members .result ≤ 84 = omega (arith, members-room (s .args .x) (s .args .us) (s .args .vs) (s .pre .0), c .before .before .before .before .before .before .before .before .before .before .before .put-told .ensures .0, c .before .before .before .before .before .before .before .put-sizes .ensures .0, c .before .before .before .put-members .ensures .0) in
     let l : length (c .before .before .before .put-members .last .0) ≡ length (now (s .args .d)) = c .before .before .before .put-members .kept .0 ∙ c .before .before .before .before .before .before .before .put-sizes .kept .0 ∙ c .before .before .before .before .before .before .before .before .before .before .before .put-told .kept .0 in
     let e : c .before .before .before .put-members .result + 350 ≤ length (c .before .before .before .put-members .last .0) = omega (arith, s .pre .1 .1 .room) in
     (s .pre .1 .0, e)
@@ -36,7 +36,7 @@ sub-put-head c = search needs
 cast-put-head : tie.Need-cast-put-head
 cast-put-head c =
     let s = c .before .before .before .before .before .before .before .before .before .before .before .before .before .before .before .before .before .before in
-    let m : c .before .before .before .before .before .before .before .put-members .result ≤ 84 = omega (arith, members-room (s .args .x) (now (s .args .us)) (now (s .args .vs)) (s .pre .0), c .before .before .before .before .before .before .before .before .before .before .before .before .before .before .before .put-told .ensures .0, c .before .before .before .before .before .before .before .before .before .before .before .put-sizes .ensures .0, c .before .before .before .before .before .before .before .put-members .ensures .0) in
+    let m : c .before .before .before .before .before .before .before .put-members .result ≤ 84 = omega (arith, members-room (s .args .x) (s .args .us) (s .args .vs) (s .pre .0), c .before .before .before .before .before .before .before .before .before .before .before .before .before .before .before .put-told .ensures .0, c .before .before .before .before .before .before .before .before .before .before .before .put-sizes .ensures .0, c .before .before .before .before .before .before .before .put-members .ensures .0) in
     let e : c .before .before .before .put-tail .result ≤ 415 = omega (arith, c .before .before .before .put-tail .ensures .0, tail-room (s .args .y) (s .pre .1 .0)) in
     omega arith
 
@@ -52,13 +52,13 @@ returns c =
     let a = s .args in
     let D = now (a .d) in
     let P = toldBytes (a .t) in
-    let M = memberBytes (a .x) (now (a .us)) (now (a .vs)) in
+    let M = memberBytes (a .x) (a .us) (a .vs) in
     let T = tailBytes (tailIn (a .y)) in
     let e1 = run D 6 P (length-told (a .t)) (c .before .before .before .before .before .before .before .before .before .before .before .before .before .before .before .before .before .before .put-told .ensures) in
     let e2 = run-on D 6 P (sizesBytes (a .x)) e1 (c .before .before .before .before .before .before .before .before .before .before .before .before .before .before .put-sizes .ensures) in
     let e3 = run-on D 6 (P ++ sizesBytes (a .x)) M e2 (c .before .before .before .before .before .before .before .before .before .before .put-members .ensures) in
     let e4 = run-on D 6 (P ++ sizesBytes (a .x) ++ M) T e3 (c .before .before .before .before .before .before .put-tail .ensures) in
-    let m : c .before .before .before .before .before .before .before .before .before .before .put-members .result ≤ 84 = omega (arith, members-room (s .args .x) (now (s .args .us)) (now (s .args .vs)) (s .pre .0), c .before .before .before .before .before .before .before .before .before .before .before .before .before .before .before .before .before .before .put-told .ensures .0, c .before .before .before .before .before .before .before .before .before .before .before .before .before .before .put-sizes .ensures .0, c .before .before .before .before .before .before .before .before .before .before .put-members .ensures .0) in
+    let m : c .before .before .before .before .before .before .before .before .before .before .put-members .result ≤ 84 = omega (arith, members-room (s .args .x) (s .args .us) (s .args .vs) (s .pre .0), c .before .before .before .before .before .before .before .before .before .before .before .before .before .before .before .before .before .before .put-told .ensures .0, c .before .before .before .before .before .before .before .before .before .before .before .before .before .before .put-sizes .ensures .0, c .before .before .before .before .before .before .before .before .before .before .put-members .ensures .0) in
     let n : c .before .before .before .before .before .before .put-tail .result ≤ 415 = omega (arith, c .before .before .before .before .before .before .put-tail .ensures .0, tail-room (a .y) (s .pre .1 .0)) in
     framed-last D (P ++ sizesBytes (a .x) ++ M ++ T) 258 e4 (omega (arith, n, s .pre .1 .1 .room)) (c .before .before .put-head .ensures)
 

@@ -7,33 +7,34 @@ use lib.ListN.{length, getD}
 use denote.Ref.{now}
 use Rattle.paper.specs.Replies.{words}
 use Rattle.paper.specs.Numbers.{bytes32}
+use Rattle.derivation.specs.Lists.{blankSerial}
 use Rattle.session.proofs.Bytes.{Laid, laid-none, laid-more, length-bytes32}
 use Rattle.session.proofs.writing.put_run.Statement.{statement}
 use Rattle.session.proofs.writing.put_run.Tie as tie
 
 abbrev Inv-loop : tie.InvT-loop
-Inv-loop d₀ at xs from n i₀ d i = (i ≤ n) × ((from + n ≤ 16) × (at + 4 * n ≤ length d₀)) × Laid bytes32 (λ (j : ℕ). getD xs (from + j) 0) d₀ at i d
+Inv-loop d₀ at from n xs i₀ d i = (i ≤ n) × ((from + n ≤ 16) × (at + 4 * n ≤ length d₀)) × Laid bytes32 (λ (j : ℕ). getD xs (from + j) blankSerial .0) d₀ at i d
 
 abbrev μ-loop : tie.MeasureT-loop
-μ-loop d₀ at xs from n i₀ d i = n - i
+μ-loop d₀ at from n xs i₀ d i = n - i
 
 loop-holds : tie.Need-loop-holds Inv-loop μ-loop
-loop-holds c = (search needs, search needs, laid-none bytes32 (λ (j : ℕ). getD (now (c .before .args .xs)) (c .before .args .from + j) 0) (now (c .before .args .d)) (c .before .args .at))
+loop-holds c = (search needs, search needs, laid-none bytes32 (λ (j : ℕ). getD (c .before .args .t3) (c .before .args .from + j) blankSerial .0) (now (c .before .args .d)) (c .before .args .at))
+
+add-x : tie.Need-add-x Inv-loop μ-loop
+add-x c = search needs
+
+mul-x : tie.Need-mul-x Inv-loop μ-loop
+mul-x c = search needs
+
+array-copy-out-x : tie.Need-array-copy-out-x Inv-loop μ-loop
+array-copy-out-x c = search needs
 
 mul-put-u32 : tie.Need-mul-put-u32 Inv-loop μ-loop
 mul-put-u32 c = search needs
 
 add-put-u32 : tie.Need-add-put-u32 Inv-loop μ-loop
 add-put-u32 c = search needs
-
-add-put-u32-2 : tie.Need-add-put-u32-2 Inv-loop μ-loop
-add-put-u32-2 c = search needs
-
-mul-put-u32-2 : tie.Need-mul-put-u32-2 Inv-loop μ-loop
-mul-put-u32-2 c = search needs
-
-element-copy-out-put-u32 : tie.Need-element-copy-out-put-u32 Inv-loop μ-loop
-element-copy-out-put-u32 c = search needs
 
 put-u32-requires : tie.Need-put-u32-requires Inv-loop μ-loop
 put-u32-requires c κs = search needs
@@ -48,7 +49,7 @@ loop-again : tie.Need-loop-again Inv-loop μ-loop
 loop-again c =
     let l = c .before .before .before .before .before .before .loop in
     let a = c .before .before .before .before .before .before .before .before .args in
-    (search needs, search needs, laid-more bytes32 (λ (j : ℕ). getD (now (a .xs)) (a .from + j) 0) 4 length-bytes32 (now (a .d)) (a .at) (l .i) (l .inv .2) (c .before .before .put-u32 .kept .0) (c .before .before .put-u32 .ensures .1))
+    (search needs, search needs, laid-more bytes32 (λ (j : ℕ). getD (a .t3) (a .from + j) blankSerial .0) 4 length-bytes32 (now (a .d)) (a .at) (l .i) (l .inv .2) (c .before .before .put-u32 .kept .0) (c .before .before .put-u32 .ensures .1))
 
 mul-result : tie.Need-mul-result Inv-loop μ-loop
 mul-result c = search needs
@@ -70,11 +71,11 @@ put-run-spec =
     Inv-loop
     μ-loop
     loop-holds
+    add-x
+    mul-x
+    array-copy-out-x
     mul-put-u32
     add-put-u32
-    add-put-u32-2
-    mul-put-u32-2
-    element-copy-out-put-u32
     put-u32-requires
     add-i
     loop-less

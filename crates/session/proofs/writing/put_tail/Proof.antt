@@ -1,88 +1,57 @@
 -- Three counted runs, one behind the other.
 use borrow.Author.Needs.{needs}
 use mathlib.Core.Path.{_≡_, sym, ap, _∙_}
-use mathlib.Core.List.{List, [], _∷_, _++_}
-use Prim.Native.Nat.{ℕ, _+_}
+use mathlib.Core.List.{List, _∷_, _++_}
+use Prim.Native.Nat.{ℕ, suc, _+_, _*_}
 use native.Mathlib.Omega.{arith}
 use denote.Ref.{now}
 use lib.ListN.{length, take}
+use lib.Seq.{sets}
 use Rattle.paper.specs.Words.{flat}
 use Rattle.paper.specs.Numbers.{serialNos, surfaceNos}
 use Rattle.paper.specs.Replies.{shownBytes, words}
-use Rattle.session.proofs.Bytes.{Run, run, run-on, tail-is, held-entries, held-words, length-shown}
 use Rattle.paper.specs.declared.Serial.{Serial}
 use Rattle.paper.specs.declared.Surface.{Surface}
-use lib.Seq.{sets}
+use Rattle.session.proofs.Bytes.{Run, run, run-on, tail-is, held-entries, held-words, length-shown}
 use Rattle.session.proofs.writing.put_tail.Statement.{statement}
 use Rattle.session.proofs.writing.put_tail.Tie as tie
-
-cast-put-u8 : tie.Need-cast-put-u8
-cast-put-u8 c = search needs
-
-put-u8-requires : tie.Need-put-u8-requires
-put-u8-requires c κs = search needs
 
 put-handed-requires : tie.Need-put-handed-requires
 put-handed-requires c κs = search needs
 
-cast-put-u8-2 : tie.Need-cast-put-u8-2
-cast-put-u8-2 c = search needs
-
-put-u8-requires-2 : tie.Need-put-u8-requires-2
-put-u8-requires-2 c κs = search needs
-
 put-thrown-requires : tie.Need-put-thrown-requires
 put-thrown-requires c κs = search needs
 
-cast-put-u8-3 : tie.Need-cast-put-u8-3
-cast-put-u8-3 c = search needs
-
-put-u8-requires-3 : tie.Need-put-u8-requires-3
-put-u8-requires-3 c κs = search needs
-
 put-released-requires : tie.Need-put-released-requires
-put-released-requires c κs =
-    let h = c .before .before .before .before .before .before .before .before .before .before .before .before .before .before .before .before .before .before .before .before .before .before .before .before .before .before .before .before .before .before .before .pre .0 in
-    let l : length (c .before .before .before .put-u83 .last .0) ≡ length (now (c .before .before .before .before .before .before .before .before .before .before .before .before .before .before .before .before .before .before .before .before .before .before .before .before .before .before .before .before .before .before .before .args .d)) = search needs in
-    (h .released .room, omega (arith, c .before .before .before .before .before .before .before .before .before .before .before .before .before .before .before .before .before .before .before .before .before .before .before .before .before .before .before .before .before .before .before .pre .1, h .handed .room, h .thrown .room, h .released .room))
+put-released-requires c κs = search needs
 
 same-length : tie.Need-same-length
 same-length c = search needs
 
 returns : tie.Need-returns
 returns c =
-    let a = c .before .before .before .before .before .before .before .before .before .before .before .before .before .before .before .before .before .before .before .before .before .before .before .before .before .before .before .before .before .before .before .before .before .before .args in
-    let o = a .x in
-    let h = c .before .before .before .before .before .before .before .before .before .before .before .before .before .before .before .before .before .before .before .before .before .before .before .before .before .before .before .before .before .before .before .before .before .before .pre .0 in
-    let D = now (a .d) in
-    let u1 = c .before .before .before .before .before .before .before .before .before .before .before .before .before .before .before .before .before .before .before .before .before .before .before .before .put-u8 in
-    let w1 = c .before .before .before .before .before .before .before .before .before .before .before .before .before .before .before .before .before .before .before .before .put-handed in
-    let u2 = c .before .before .before .before .before .before .before .before .before .before .before .before .before .before .before .put-u82 in
-    let w2 = c .before .before .before .before .before .before .before .before .before .before .before .put-thrown in
-    let u3 = c .before .before .before .before .before .before .put-u83 in
+    let t = c .before .before .before .before .before .before in
+    let h = t .before .before .before .before in
+    let s = h .before .before .before in
+    let m = s .args .m in
+    let g = s .pre .0 in
+    let D = now (s .args .d) in
+    let at = s .args .at in
+    let w1 = h .put-handed in
+    let w2 = t .put-thrown in
     let w3 = c .before .before .put-released in
-    let X = flat shownBytes (take (o .handed .len) (o .handed .items)) in
-    let Y = words (serialNos (take (o .thrown .len) (o .thrown .items))) in
-    let Z = words (surfaceNos (take (o .released .len) (o .released .items))) in
-    let e1 = run-on D (a .at) (o .handed .len ∷ []) X (u1 .ensures) (run (u1 .last .0) (u1 .result) X (held-entries (h .handed) shownBytes 12 length-shown) (w1 .ensures)) in
-    let e2 = run-on (w1 .last .0) (w1 .result) (o .thrown .len ∷ []) Y (u2 .ensures) (run (u2 .last .0) (u2 .result) Y (held-words (h .thrown) (λ (n : Serial). n .0)) (w2 .ensures)) in
-    let e3 = run-on (w2 .last .0) (w2 .result) (o .released .len ∷ []) Z (u3 .ensures) (run (u3 .last .0) (u3 .result) Z (held-words (h .released) (λ (n : Surface). n .0)) (w3 .ensures)) in
-    let e : Run D (a .at) ((o .handed .len ∷ X) ++ (o .thrown .len ∷ Y) ++ (o .released .len ∷ Z)) (w3 .result) (w3 .last .0) =
-    run-on D (a .at) ((o .handed .len ∷ X) ++ (o .thrown .len ∷ Y)) (o .released .len ∷ Z) (run-on D (a .at) (o .handed .len ∷ X) (o .thrown .len ∷ Y) e1 e2) e3 in
-    (e .0 ∙ ap (λ (l : List ℕ). a .at + length l) (sym (tail-is o h)), e .1 ∙ ap (sets D (a .at)) (sym (tail-is o h)))
+    let X = m .shown ∷ flat shownBytes (take (m .shown) (m .handed)) in
+    let Y = m .dropped ∷ words (serialNos (take (m .dropped) (m .thrown))) in
+    let Z = m .freed ∷ words (surfaceNos (take (m .freed) (m .released))) in
+    let x : length X ≡ 1 + 12 * m .shown = omega (arith, held-entries (g .handed) shownBytes 12 length-shown) in
+    let y : length Y ≡ 1 + 4 * m .dropped = omega (arith, held-words (g .thrown) (λ (n : Serial). n .0)) in
+    let z : length Z ≡ 1 + 4 * m .freed = omega (arith, held-words (g .released) (λ (n : Surface). n .0)) in
+    let e1 = run D at X x (w1 .ensures) in
+    let e2 = run-on D at X Y e1 (run (w1 .last .0) (w1 .result) Y y (w2 .ensures)) in
+    let e : Run D at (X ++ Y ++ Z) (w3 .result) (w3 .last .0) = run-on D at (X ++ Y) Z e2 (run (w2 .last .0) (w2 .result) Z z (w3 .ensures)) in
+    (e .0 ∙ ap (λ (l : List ℕ). at + length l) (sym (tail-is m g)), e .1 ∙ ap (sets D at) (sym (tail-is m g)))
 
 pub put-tail-spec : {M : Type 1} → statement M
 put-tail-spec =
     tie.close
-    (tie.spec
-    cast-put-u8
-    put-u8-requires
-    put-handed-requires
-    cast-put-u8-2
-    put-u8-requires-2
-    put-thrown-requires
-    cast-put-u8-3
-    put-u8-requires-3
-    put-released-requires
-    same-length
-    returns)
+    (tie.spec put-handed-requires put-thrown-requires put-released-requires same-length returns)

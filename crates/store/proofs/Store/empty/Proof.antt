@@ -1,13 +1,13 @@
--- None of its places is used, and all its words are 0.
-use mathlib.Core.Path.{refl}
-use Rattle.paper.specs.Words.{table}
-use Rattle.store.proofs.Tidy.{zero-normal}
+-- Every place is blank.
+use borrow.Author.Needs.{needs}
 use Rattle.store.proofs.Store.empty.Statement.{statement}
 use Rattle.store.proofs.Store.empty.Tie as tie
 
+none-requires : tie.Need-none-requires
+none-requires c κs = search needs
+
 returns : tie.Need-returns
-unfolding table
-returns c = (refl, zero-normal 97)
+returns c = rw (c .none .ensures)
 
 pub empty-spec : {M : Type 1} → statement M
-empty-spec = tie.close (tie.spec returns)
+empty-spec = tie.close (tie.spec none-requires returns)

@@ -1,39 +1,40 @@
 -- Each turn puts one picture more behind those handed out before.
 use Prim.Native.Nat.{_≤_, _-_}
-use mathlib.Core.Path.{_≡_}
+use mathlib.Core.Path.{_≡_, refl}
 use native.Mathlib.Omega.{arith}
-use Rattle.store.specs.Tails.{noShown, handedIn}
+use Rattle.derivation.specs.Pad.{used}
 use Rattle.derivation.proofs.Pad.{is-long}
-use Rattle.store.proofs.Kept.{Joined, joined-none, joined-more}
+use Rattle.store.specs.Tails.{noShown}
+use Rattle.store.proofs.Gone.{Joined, joined-none, joined-more}
 use Rattle.store.proofs.ending.after.Statement.{statement}
 use Rattle.store.proofs.ending.after.Tie as tie
 
 abbrev Inv-loop : tie.InvT-loop
-Inv-loop y items n handed₀ i₀ handed i = (i ≤ n) × Joined 16 noShown items (handedIn handed₀) (handed₀ .len) (handed .items) (handed .len) i
+Inv-loop y r handed₀ k₀ n i₀ handed k i = (i ≤ n) × Joined 16 noShown (y .handed) (used k₀ handed₀) k₀ handed k i
 
 abbrev μ-loop : tie.MeasureT-loop
-μ-loop y items n handed₀ i₀ handed i = n - i
+μ-loop y r handed₀ k₀ n i₀ handed k i = n - i
 
 loop-holds : tie.Need-loop-holds Inv-loop μ-loop
-loop-holds c = let s = c .before .before in (omega arith, joined-none (s .args .y .handed .items) (s .pre .0))
+loop-holds c = (omega arith, joined-none _ (c .before .pre .0 .tail .handed))
 
-mul-shown : tie.Need-mul-shown Inv-loop μ-loop
-mul-shown c = omega (arith, c .before .before .before .before .pre .2)
+mul-p : tie.Need-mul-p Inv-loop μ-loop
+mul-p c = omega (arith, c .before .before .before .pre .2)
 
-array-copy-out-shown : tie.Need-array-copy-out-shown Inv-loop μ-loop
-array-copy-out-shown c = omega (arith, c .before .before .before .before .pre .2)
+element-copy-out-p : tie.Need-element-copy-out-p Inv-loop μ-loop
+element-copy-out-p c = omega (arith, c .before .before .before .pre .2)
 
-mul-shown-2 : tie.Need-mul-shown-2 Inv-loop μ-loop
-mul-shown-2 c = let m = c .before .before .loop .inv .1 .long in omega (arith, c .before .before .before .before .before .pre .2)
+mul-handed : tie.Need-mul-handed Inv-loop μ-loop
+mul-handed c = let k = c .before .before in omega (arith, k .before .before .pre .2, k .loop .inv .1 .long)
 
-element-set-from-shown : tie.Need-element-set-from-shown Inv-loop μ-loop
-element-set-from-shown c = let m = c .before .before .loop .inv .1 .long in omega (arith, c .before .before .before .before .before .pre .2)
+array-set-from-handed : tie.Need-array-set-from-handed Inv-loop μ-loop
+array-set-from-handed c = let k = c .before .before in omega (arith, k .before .before .pre .2, k .loop .inv .1 .long)
 
-add-handed : tie.Need-add-handed Inv-loop μ-loop
-add-handed c = let m = c .before .before .loop .inv .1 .long in omega (arith, c .before .before .before .before .before .pre .2)
+add-k : tie.Need-add-k Inv-loop μ-loop
+add-k c = let k = c .before .before in omega (arith, k .before .before .pre .2, k .loop .inv .1 .long)
 
 add-i : tie.Need-add-i Inv-loop μ-loop
-add-i c = omega (arith, c .before .before .before .before .before .pre .2)
+add-i c = omega (arith, c .before .before .before .before .pre .2)
 
 loop-less : tie.Need-loop-less Inv-loop μ-loop
 loop-less c = omega arith
@@ -41,18 +42,19 @@ loop-less c = omega arith
 loop-again : tie.Need-loop-again Inv-loop μ-loop
 loop-again c =
     let k = c .before .before in
-    let s = k .before .before .before in
-    let m = k .loop .inv .1 .long in
-    let e = is-long (s .pre .1 .handed) in
-    (omega arith, joined-more (k .loop .inv .1) (omega (arith, s .pre .2)) (omega (arith, s .pre .2)))
+    let s = k .before .before in
+    let v = k .loop .inv .1 in
+    let n = v .long in
+    let e = is-long (s .pre .1 .tail .handed) in
+    (omega arith, joined-more v (omega (arith, s .pre .2)) (omega (arith, s .pre .2)))
 
 returns : tie.Need-returns Inv-loop μ-loop
 returns c =
-    let k = c .before .before .before in
-    let s = k .before .before .before in
-    let e : k .loop .i ≡ s .args .y .handed .len = omega arith in
-    let h = rw e at (k .loop .inv .1) in
-    record { handed = h .holds; thrown = s .pre .1 .thrown; released = s .pre .1 .released }
+    let k = c .before in
+    let s = k .before .before in
+    let e : k .loop .i ≡ s .args .t2 .shown = omega arith in
+    let t = s .pre .1 .tail in
+    record { places = refl; len = refl; tail = record { handed = rw e at (k .loop .inv .1 .holds); thrown = t .thrown; released = t .released } }
 
 pub after-spec : {M : Type 1} → statement M
 after-spec =
@@ -61,11 +63,11 @@ after-spec =
     Inv-loop
     μ-loop
     loop-holds
-    mul-shown
-    array-copy-out-shown
-    mul-shown-2
-    element-set-from-shown
-    add-handed
+    mul-p
+    element-copy-out-p
+    mul-handed
+    array-set-from-handed
+    add-k
     add-i
     loop-less
     loop-again

@@ -1,38 +1,46 @@
--- As many places are used as the round has left.
-use denote.Ref.{now}
-use Prim.Native.Nat.{ℕ}
-use native.Mathlib.Omega.{arith}
+-- The picture is stored, and one round over the pictures is made.
+use Prim.Native.Nat.{_≤_}
 use mathlib.Core.Path.{subst}
-use Rattle.paper.specs.Calls.{finished}
-use Rattle.store.specs.Shelf.{pictures}
-use Rattle.store.specs.Tails.{Gathers}
-use Rattle.store.proofs.Ends.{normal-tidy, leaves}
-use Rattle.store.proofs.Rounds.{gathers-good}
-use Rattle.store.proofs.Shelf.{used-length}
+use native.Mathlib.Omega.{arith}
+use Rattle.store.specs.Tails.{HoldsMoved}
+use Rattle.store.proofs.Ends.{empty-room, finishes}
 use borrow.Author.Needs.{needs}
 use Rattle.store.proofs.ending.finish_picture.Statement.{statement}
 use Rattle.store.proofs.ending.finish_picture.Tie as tie
 
-used-places-requires : tie.Need-used-places-requires
-used-places-requires c κs = search needs
+store-picture-requires : tie.Need-store-picture-requires
+store-picture-requires c κs = search needs
 
-finish-at-requires : tie.Need-finish-at-requires
-finish-at-requires c κs =
-    let s = c .before .before .before in
-    omega (arith, c .before .used-places .ensures .0, used-length (now (s .args .t)), s .pre)
+latency-of-requires : tie.Need-latency-of-requires
+latency-of-requires c κs = search needs
 
-close-requires : tie.Need-close-requires
-close-requires c κs = gathers-good (c .before .finish-at .ensures .0)
+find-lowest-poc-for-bumping-requires : tie.Need-find-lowest-poc-for-bumping-requires
+find-lowest-poc-for-bumping-requires c κs = search needs
+
+none-requires : tie.Need-none-requires
+none-requires c κs = search needs
+
+bump-as-needed-requires : tie.Need-bump-as-needed-requires
+bump-as-needed-requires c κs =
+    let t = c .before .before .before .before .store-picture in
+    let few : t .result .len ≤ 16 = omega (arith, t .ensures .0) in
+    let r = empty-room (c .none .ensures) few in
+    (r .0, r .1, r .2, rw (c .before .before .latency-of .ensures) at (c .before .find-lowest-poc-for-bumping .ensures))
 
 returns : tie.Need-returns
 returns c =
-    let a = c .before .before .before .before .before .before .args in
-    let n = c .before .before .before .before .used-places in
-    let f = c .before .before .finish-at in
-    let e = c .close in
-    let g = subst (λ (k : ℕ). Gathers (f .last .0) (f .result .stored) (f .result .handed) (f .result .released) (finished (a .l) (pictures (now (a .t)) k) (a .c))) (n .ensures .0) (f .ensures .0) in
-    leaves (now (a .t)) (e .last .0) (e .result) g (e .ensures .1 .0) (e .ensures .0) (λ h. e .ensures .1 .1 (f .ensures .1 (normal-tidy (now (a .t)) (n .result) (n .ensures .0) h)))
+    let l = c .before .before .before .before .before .before .args .l in
+    let t = c .before .before .before .before .before .store-picture in
+    let x = c .before .none in
+    subst (HoldsMoved (c .bump-as-needed .result)) (finishes l (t .result .places) (t .result .len) _ (x .result) (x .ensures) (t .ensures .1)) (c .bump-as-needed .ensures)
 
 pub finish-picture-spec : {M : Type 1} → statement M
 finish-picture-spec =
-    tie.close (tie.spec used-places-requires finish-at-requires close-requires returns)
+    tie.close
+    (tie.spec
+    store-picture-requires
+    latency-of-requires
+    find-lowest-poc-for-bumping-requires
+    none-requires
+    bump-as-needed-requires
+    returns)

@@ -1,33 +1,39 @@
--- The counts rise, and a picture is put behind them.
-use denote.Ref.{now}
+-- The picture is put behind those in front of it, at most fifteen.
+use mathlib.Core.Path.{_≡_, sym, _∙_}
+use mathlib.Core.Logic.{⊎-elim}
+use Prim.Native.Nat.{min}
 use mir.Val.{SFits}
 use mir.Syntax.{w32}
 use mir.ValLaws.{toZ-ofZ}
-use mathlib.Core.List.{map}
 use native.Mathlib.Omega.{arith}
-use Rattle.paper.specs.Calls.{raised, stored}
-use Rattle.store.specs.Shelf.{pictures, Puts}
-use Rattle.store.proofs.Shelf.{stores}
-use Rattle.store.proofs.Tidy.{puts-tidy, tidy-more}
+use lib.ListN.{length, length-map}
+use Rattle.paper.specs.Calls.{stored}
+use Rattle.store.proofs.Kept.{put-more}
 use borrow.Author.Needs.{needs}
 use Rattle.store.proofs.ending.store_picture.Statement.{statement}
 use Rattle.store.proofs.ending.store_picture.Tie as tie
 
-raise-counts-requires : tie.Need-raise-counts-requires
-raise-counts-requires c κs = search needs
+sub-at : tie.Need-sub-at
+sub-at c = search needs
 
-put-picture-requires : tie.Need-put-picture-requires
-put-picture-requires c κs = search needs
+at-is : (c : tie.After-row-known) → c .before .if1 .at ≡ min (c .before .before .before .before .before .before .args .s .len) 15
+at-is c = ⊎-elim (λ w. omega (arith, w .0 .taken, w .1)) (λ w. omega (arith, w .0 .left, w .1)) (c .before .if1 .came)
+
+mul-places : tie.Need-mul-places
+mul-places c = omega (arith, at-is c)
+
+array-set-from-places : tie.Need-array-set-from-places
+array-set-from-places c = omega (arith, at-is c)
+
+add-t12 : tie.Need-add-t12
+add-t12 c = omega (arith, at-is c)
 
 returns : tie.Need-returns
 returns c =
-    let a = c .before .before .before .before .before .before .before .args in
-    let f : SFits w32 (a .c .poc) = search needs in
-    let w = c .before .before .before .raise-counts in
-    let p : Puts (a .n) (stored (a .c)) (w .last .0) (c .put-picture .last .0) = rw (toZ-ofZ w32 (a .c .poc) f) at (c .put-picture .ensures) in (
-      stores (a .n) (stored (a .c)) (w .last .0) (c .put-picture .last .0) (map raised (pictures (now (a .t)) (a .n))) p (w .ensures .0),
-      λ d. puts-tidy p (tidy-more (w .ensures .1 d) (omega arith)) (omega arith),
-    )
+    let s = c .before .before .before .before .before .before in
+    let l : length (s .args .s .places) ≡ 16 = sym (length-map (s .args .s .places) _) ∙ s .good .0 .1 .1 .0 .1 .0 .1 in
+    let f : SFits w32 (s .args .c .poc) = search needs in
+    rw (at-is c, toZ-ofZ w32 (s .args .c .poc) f) (omega arith, put-more (s .args .s .places) (min (s .args .s .len) 15) (stored (s .args .c)) (omega arith))
 
 pub store-picture-spec : {M : Type 1} → statement M
-store-picture-spec = tie.close (tie.spec raise-counts-requires put-picture-requires returns)
+store-picture-spec = tie.close (tie.spec sub-at mul-places array-set-from-places add-t12 returns)

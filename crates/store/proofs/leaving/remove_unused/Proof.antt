@@ -1,35 +1,63 @@
--- Each turn passes one place over or moves its picture up, and the places from it on are as they were; what is left behind is blanked.
+-- Each turn moves a picture up or puts its surface behind the others, and the places from it on are as they were.
 use Prim.Native.Nat.{_≤_, _-_}
 use mathlib.Core.Logic.{⊎-elim}
+use mathlib.Core.Bool.{not, false}
+use mathlib.Core.List.{[]}
 use mathlib.Core.Path.{_≡_, sym, ap, _∙_}
 use native.Mathlib.Omega.{arith}
 use borrow.Author.Needs.{needs}
+use lib.ListN.{length, length-map}
 use Rattle.paper.specs.Output.{inUse}
-use Rattle.store.specs.Shelf.{pictureAt}
-use Rattle.store.proofs.Kept.{Kept, kept-none, kept-take, kept-pass}
+use Rattle.paper.specs.declared.Picture.{Picture}
+use Rattle.store.specs.Walks.{surfaceOf}
+use Rattle.store.specs.Places.{placeAt}
+use Rattle.store.specs.Tails.{noSurface, unused}
+use Rattle.store.proofs.Gone.{Kept, kept-none, kept-is, kept-take, kept-pass, Pushed, pushed-first, pushed-take, pushed-pass}
 use Rattle.store.proofs.leaving.remove_unused.Statement.{statement}
 use Rattle.store.proofs.leaving.remove_unused.Tie as tie
 
 abbrev Inv-loop : tie.InvT-loop
-Inv-loop t₀ n k₀ i₀ t k i = (i ≤ n) × Kept inUse t₀ t k i
+Inv-loop n places₀ released₀ k₀ i₀ places released k i =
+    (i ≤ n) × Kept inUse places₀ places k i × Pushed 17 noSurface (unused false) surfaceOf places₀ [] 0 (released .items) (released .len) i
 
 abbrev μ-loop : tie.MeasureT-loop
-μ-loop t₀ n k₀ i₀ t k i = n - i
+μ-loop n places₀ released₀ k₀ i₀ places released k i = n - i
+
+none-requires : tie.Need-none-requires Inv-loop μ-loop
+none-requires c κs = search needs
 
 loop-holds : tie.Need-loop-holds Inv-loop μ-loop
-loop-holds c = (omega arith, kept-none _ _)
+loop-holds c =
+    let s = c .before .before in
+    let l : length (s .args .s .places) ≡ 16 = sym (length-map (s .args .s .places) _) ∙ s .good .0 .1 .1 .0 .1 .0 .1 in
+    (omega arith, kept-none _ _ l, pushed-first _ _ _ (c .none .ensures))
 
-picture-at-requires : tie.Need-picture-at-requires Inv-loop μ-loop
-picture-at-requires c κs = omega arith
+mul-p : tie.Need-mul-p Inv-loop μ-loop
+mul-p c = omega arith
+
+array-copy-out-p : tie.Need-array-copy-out-p Inv-loop μ-loop
+array-copy-out-p c = omega arith
 
 is-used-requires : tie.Need-is-used-requires Inv-loop μ-loop
 is-used-requires c κs = search needs
 
-move-picture-requires : tie.Need-move-picture-requires Inv-loop μ-loop
-move-picture-requires c κs = (omega arith, omega arith)
+mul-places : tie.Need-mul-places Inv-loop μ-loop
+mul-places c = omega arith
+
+array-set-from-places : tie.Need-array-set-from-places Inv-loop μ-loop
+array-set-from-places c = omega arith
 
 add-k : tie.Need-add-k Inv-loop μ-loop
 add-k c = omega arith
+
+mul-surface : tie.Need-mul-surface Inv-loop μ-loop
+mul-surface c = omega arith
+
+element-set-from-surface : tie.Need-element-set-from-surface Inv-loop μ-loop
+element-set-from-surface c = omega arith
+
+add-released : tie.Need-add-released Inv-loop μ-loop
+add-released c = omega arith
 
 add-i : tie.Need-add-i Inv-loop μ-loop
 add-i c = omega arith
@@ -39,23 +67,23 @@ loop-less c = omega arith
 
 loop-again : tie.Need-loop-again Inv-loop μ-loop
 loop-again c =
-    let k = c .before .before .before .before .before in
-    let e : inUse (pictureAt (k .loop .t) (k .loop .i)) ≡ c .before .is-used .result = ap inUse (sym (c .before .before .picture-at .ensures)) ∙ sym (c .before .is-used .ensures) in (
-      omega arith,
-      ⊎-elim (λ w. rw (w .3, w .4) (kept-take (k .loop .inv .1) (e ∙ w .0 .taken) (w .2 .ensures))) (λ w. rw (w .1, w .2) (kept-pass (k .loop .inv .1) (e ∙ w .0 .left))) (c .if1 .came),
-    )
-
-blank-from-requires : tie.Need-blank-from-requires Inv-loop μ-loop
-blank-from-requires c κs = (omega arith, omega arith)
+    let k = c .before .before .before .before in
+    let v = k .loop .inv in
+    let u : inUse (placeAt (k .loop .places) (k .loop .i)) ≡ c .before .is-used .result = sym (c .before .is-used .ensures) in
+    let x = kept-is (v .1) in
+    let y = ap (λ (q : Picture). not (inUse q)) (sym x) ∙ ap not u in
+    ⊎-elim
+    (λ w. rw (w .1, w .2, w .3) (omega arith, kept-take (v .1) (u ∙ w .0 .taken) (omega arith), pushed-pass (v .2) (y ∙ ap not (w .0 .taken))))
+    (λ w. rw (w .2, w .3, w .4) (omega arith, kept-pass (v .1) (u ∙ w .0 .left), pushed-take (v .2) _ (ap surfaceOf x) (omega (arith, v .2 .few)) (y ∙ ap not (w .0 .left))))
+    (c .if1 .came)
 
 returns : tie.Need-returns Inv-loop μ-loop
 returns c =
-    let k = c .before .before .before in
-    let n = k .before .args .n in
-    let e : k .loop .i ≡ n = omega arith in
-    let h = rw e at (k .loop .inv .1) in
-    let b = c .blank-from .ensures in
-    (h .few, (b .0 ∙ h .pics, λ d. b .1 (h .tidy n (omega arith) d)))
+    let k = c .before in
+    let v = k .loop .inv in
+    let e : k .loop .i ≡ k .before .before .before .args .s .len = omega arith in
+    let h = rw e at (v .1) in
+    (h .few, (h .pics, rw e at (v .2 .holds)))
 
 pub remove-unused-spec : {M : Type 1} → statement M
 remove-unused-spec =
@@ -63,13 +91,18 @@ remove-unused-spec =
     (tie.spec
     Inv-loop
     μ-loop
+    none-requires
     loop-holds
-    picture-at-requires
+    mul-p
+    array-copy-out-p
     is-used-requires
-    move-picture-requires
+    mul-places
+    array-set-from-places
     add-k
+    mul-surface
+    element-set-from-surface
+    add-released
     add-i
     loop-less
     loop-again
-    blank-from-requires
     returns)
