@@ -5,8 +5,8 @@ Told from the record, the session of tools/model.py before and after it, and wha
 import model
 
 STOPS = {
-    "discard": "discard, which the Rust has not",
-    "abandon": "abandon, which the Rust has not",
+    "discard": "discard, which the Rust has not (21)",
+    "abandon": "abandon, which the Rust has not (22)",
     "equal": "a picture is stored beside one of equal POC (1, 2, 17)",
     "forgot": "the POC depends on the previous Tid0 picture that configure forgot (8)",
     "after-end": "IRAP after end of sequence with pictures stored (13)",

@@ -69,12 +69,20 @@ class Ledger:
         output = bool(reply["flags"] & 2)
         fault_if(output and not record["flags"] & 1, "the output flag came from nowhere")
         self.tail("begin", reply)
+        self.clear(reply)
         self.sets(record, reply)
         self.begun += 1
         self.sums["begun"] += 1
         self.current = Picture(reply["serial"], record["surface"], reply["poc"], output)
         self.pictures[reply["serial"]] = self.current
         self.by_surface[record["surface"]] = self.current
+
+    def clear(self, reply):
+        """A begin throws away only by step 5's clear."""
+        if reply["thrown"]:
+            fault_if(not reply["flags"] & 8, "a begin throws away and does not say no output of prior pictures")
+            fault_if(reply["handed"], "a begin throws away and hands out")
+            fault_if(self.by_surface, "a begin throws away and leaves a stored picture")
 
     def sets(self, record, reply):
         """As many members as the record has entries, each missing or stored."""

@@ -22,6 +22,7 @@ fn words(part: u8) -> bool {
         16 => io::write_all(1, b"more is stored than a store holds"),
         17 => io::write_all(1, b"a record without its reply"),
         18 => io::write_all(1, b"a reply without its record"),
+        19 => io::write_all(1, b"thrown away by a begin that does not clear"),
         _ => false,
     }
 }

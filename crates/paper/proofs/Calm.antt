@@ -105,7 +105,7 @@ unfolding waitings keep anyB
 calm-none l = record { few = zero-le; none = mathlib.Core.Bool.and-false (not (eqb (l .latency) 0)) }
 
 -- one turn of "hand out while due"
-turnOf : (List Picture → Bool) → List Picture → Moved
+abbrev pub turnOf : (List Picture → Bool) → List Picture → Moved
 turnOf g qs = cond (g qs) (handOut false qs) (still qs)
 
 no-late : (l : Limits) (ps : List Picture) → length (waitings ps) ≡ 0 → anyB (late l) ps ≡ true → false ≡ true
@@ -134,27 +134,28 @@ hand-less b ps n h = go (lowest Nothing ps) refl
 
 -- "hand out while one is due and one waits" ends with nothing due or nothing waiting, whatever "due" is
 waits-none : (g : List Picture → Bool) (n : ℕ) (ps : List Picture) → g ps ≡ false → g (turns n (turnOf g) ps .pics) ≡ false
-unfolding turns turnOf
+unfolding turns
 waits-none g zero ps e = e
 waits-none g (suc n) ps e = rw e (waits-none g n ps e)
 
 ends-after : (g : List Picture → Bool) (n : ℕ) (ps : List Picture) → length (waitings ps) ≤ n → (g (turns n (turnOf g) ps .pics) ≡ false) ⊎ (length (waitings (turns n (turnOf g) ps .pics)) ≡ 0)
-unfolding turns turnOf
+unfolding turns
 ends-after g zero ps h = inr (omega arith)
 ends-after g (suc n) ps h = split (g ps) (λ e. rw e (ends-after g n (handOut false ps .pics) (hand-less false ps n h))) (λ e. rw e (inl (waits-none g n ps e)))
 
 pub while-ends : (g : List Picture → Bool) (ps : List Picture) → (g (handWhile g ps .pics) ≡ false) ⊎ (length (waitings (handWhile g ps .pics)) ≡ 0)
-unfolding handWhile turnOf
+unfolding handWhile
 while-ends g ps = ends-after g (length ps) ps (few-wait ps)
 
 pub while-calm : (l : Limits) (ps : List Picture) → Calm l (handWhile (dueLate l) ps .pics)
 while-calm l ps = due-calm l (handWhile (dueLate l) ps .pics) (⊎-elim (λ e. e) (λ z. none-due l (handWhile (dueLate l) ps .pics) z) (while-ends (dueLate l) ps))
 
+calm-turn : (l : Limits) (g : List Picture → Bool) (qs : List Picture) → Calm l qs → Calm l (turnOf g qs .pics)
+calm-turn l g qs k = by-case (λ (m : Moved). Calm l (m .pics)) (g qs) _ _ (λ _. calm-hand l false qs k) (λ _. k)
+
 calm-while : (l : Limits) (g : List Picture → Bool) (ps : List Picture) → Calm l ps → Calm l (handWhile g ps .pics)
 unfolding handWhile
-calm-while l g ps c =
-    calm-turns l (λ (qs : List Picture). cond (g qs) (handOut false qs) (still qs))
-    (λ qs k. by-case (λ (m : Moved). Calm l (m .pics)) (g qs) _ _ (λ _. calm-hand l false qs k) (λ _. k)) (length ps) ps c
+calm-while l g ps c = calm-turns l (turnOf g) (calm-turn l g) (length ps) ps c
 
 calm-empty : (l : Limits) (ps : List Picture) → ps ≡ [] → Calm l ps
 calm-empty l ps e = subst (Calm l) (sym e) (calm-none l)
@@ -189,13 +190,15 @@ calm-mark l g ps h c =
 abbrev pub Quiet : Session → Type 0
 Quiet s = Calm (s .limits) (s .store)
 
+calm-marked : (s : Session) (f : Fields) → Quiet s → Calm (s .limits) (markedStore s f)
+calm-marked s f c = by-begin (Calm (s .limits)) (λ g ps h q. calm-mark (s .limits) g ps h q) s f c
+
 calm-room : (s : Session) (f : Fields) → Quiet s → Calm (s .limits) (roomMade s f .pics)
 unfolding roomMade beforeDecoding emptied cleared removed
 calm-room s f c =
-    let k : Calm (s .limits) (markedStore s f) = by-begin (Calm (s .limits)) (λ g ps h q. calm-mark (s .limits) g ps h q) s f c in
     by-case (λ (m : Moved). Calm (s .limits) (m .pics)) (startsOver s f && not (s .ended)) _ _
     (λ _. by-case (λ (m : Moved). Calm (s .limits) (m .pics)) (noPrior s f) _ _ (λ _. calm-none (s .limits)) (λ _. calm-none (s .limits)))
-    (λ _. calm-while (s .limits) (due true (s .limits)) (keep inUse (markedStore s f)) (calm-keep (s .limits) inUse (markedStore s f) k))
+    (λ _. calm-while (s .limits) (due true (s .limits)) (keep inUse (markedStore s f)) (calm-keep (s .limits) inUse (markedStore s f) (calm-marked s f c)))
 
 record Calms (d : Decided) : Type 0 where
   calm : Quiet (d .next)
@@ -235,7 +238,24 @@ always-calm s (r ∷ rs) c = always-calm (decideOf s r .next) rs (calm-step s r 
 pub calm-between : (rs : List (List ℕ)) → Quiet (sessionAfter fresh rs)
 calm-between rs = always-calm fresh rs (calm-none (fresh .limits))
 
--- where a store is calm, due means full: in begin only the buffering test is ever true
-pub due-is-full : (l : Limits) (ps : List Picture) → Calm l ps → due true l ps ≡ leb (l .buffering) (length ps)
+-- where a store is calm, due means full
+calm-full : (l : Limits) (ps : List Picture) → Calm l ps → due true l ps ≡ leb (l .buffering) (length ps)
 unfolding dueFull
-due-is-full l ps c = rw (calm-due l ps c)
+calm-full l ps c = rw (calm-due l ps c)
+
+-- what step 5 of a begin leaves after the removal and n turns of "hand out while one is due and one waits"
+abbrev pub afterTurns : Session → Fields → ℕ → List Picture
+afterTurns s f n = turns n (turnOf (due true (s .limits))) (removed (markedStore s f) .pics) .pics
+
+-- In a begin of any session from fresh only the buffering test is ever true: at each turn, due means stored ≥ buffering
+pub due-is-full : (rs : List (List ℕ)) (f : Fields) (n : ℕ) → let s = sessionAfter fresh rs in due true (s .limits) (afterTurns s f n) ≡ leb (s .limits .buffering) (length (afterTurns s f n))
+unfolding removed
+due-is-full rs f n =
+    let s : Session = sessionAfter fresh rs in
+    let l = s .limits in
+    calm-full l (afterTurns s f n) (calm-turns l (turnOf (due true l)) (calm-turn l (due true l)) n (removed (markedStore s f) .pics) (calm-keep l inUse (markedStore s f) (calm-marked s f (calm-between rs))))
+
+-- and so many turns are step 5, unless it clears or empties
+pub turns-of-begin : (s : Session) (f : Fields) → (startsOver s f && not (s .ended)) ≡ false → roomMade s f .pics ≡ afterTurns s f (length (removed (markedStore s f) .pics))
+unfolding roomMade beforeDecoding handWhile
+turns-of-begin s f e = rw e refl

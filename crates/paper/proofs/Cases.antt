@@ -1,12 +1,13 @@
 -- "Numbers to try": the twelve cases, one statement over one list, through the whole decision where a record can ask.
--- The definitions compute them. Then numbers 8 and 14, which no short recording shows.
+-- The definitions compute them. Then numbers 8 and 14 and large counts, which no short recording shows, and what an error near at hand would change.
 use mathlib.Core.Path.{_≡_, refl}
 use mathlib.Core.List.{List, [], _∷_, map}
-use mathlib.Core.Bool.{true, false}
+use mathlib.Core.Bool.{Bool, true, false}
 use Prim.Native.Nat.{ℕ, _/_, _%_, _^_}
 use lib.IntN.{ℤ, pos, negsuc}
-use Rattle.paper.specs.declared.Mark.the-variants.{ShortTerm}
+use Rattle.paper.specs.declared.Mark.the-variants.{Unmarked, ShortTerm}
 use Rattle.paper.specs.declared.Picture.{Picture}
+use Rattle.paper.specs.declared.Wish.{Wish}
 use Rattle.paper.specs.declared.Prev.{Prev}
 use Rattle.paper.specs.declared.Prev.the-variants as Prev
 use Rattle.paper.specs.declared.Now.{Now}
@@ -16,13 +17,14 @@ use Rattle.paper.specs.State.{Session, Refs, noRefs}
 use Rattle.paper.specs.Replies.{Reply}
 use Rattle.paper.specs.Words.{keep, allB, anyB, table, first}
 use Rattle.paper.specs.Numbers.{bit}
-use Rattle.paper.specs.Records.{fieldsOf, sliceOf, wellFormed}
+use Rattle.paper.specs.Records.{limitsOf, fieldsOf, sliceOf, wellFormed}
 use Rattle.paper.specs.Ranges.{falling, rising, beginRanges, listsRanges}
 use Rattle.paper.specs.Poc.{msbOf}
-use Rattle.paper.specs.Sets.{longPoc, wishesOf, wishesIn32, longSet, shortSet, markAll, markOnly, setsOf, marksOf}
-use Rattle.paper.specs.Output.{beforeDecoding}
+use Rattle.paper.specs.Sets.{Sets, Wishes, longPoc, wishesOf, wishesIn32, firstOf, longSet, shortSet, markAll, markOnly, setsOf, marksOf}
+use Rattle.paper.specs.Output.{dueLate, beforeDecoding}
 use Rattle.paper.specs.Begin.{noRasl, outputFlag, noPrior, msb, poc, within, markedStore, roomMade, begunCurrent}
 use Rattle.paper.specs.RefLists.{list0, list1, noCandidate, tooMany, badEntry}
+use Rattle.paper.specs.Calls.{raised}
 use Rattle.paper.specs.Step.{beginRefusal, beginOf, listsRefusal, listsOf, byKind, decideOf, stepOf}
 
 -- POC of a begin with this k and lsb after the previous Tid0 picture q, Q; the POC that a long-term entry asks for, of k, POC, lsb and
@@ -117,3 +119,49 @@ eight = refl
 pub fourteen : (s : Session) (r : List ℕ) → (stepOf s r 511 .number ≡ 14) × (stepOf s r 511 .bytes ≡ []) × (stepOf s r 511 .next ≡ s)
 unfolding stepOf
 fourteen s r = (refl, refl, refl)
+
+-- a short-term picture that waits, of this serial, POC and count
+abbrev short : ℕ → ℕ → ℕ → Picture
+short n p c = record { serial = aSerial n; surface = aSurface n; poc = pos p; mark = ShortTerm; waiting = true; count = c }
+
+-- an entry asks for this POC
+abbrev wish : ℕ → Bool → Wish
+wish p used = record { poc = pos p; used = used; whole = true }
+
+-- four pictures, each asked for by a long-term entry, used or not, and by one of: neg used, neg unused, pos used, pos unused
+abbrev four : List Picture
+four = short 1 3 0 ∷ short 2 2 0 ∷ short 3 6 0 ∷ short 4 7 0 ∷ []
+
+abbrev asksTwice : Bool → Wishes
+asksTwice used = record { neg = wish 3 true ∷ wish 2 false ∷ []; pos = wish 6 true ∷ wish 7 false ∷ []; lt = map (λ (p : ℕ). wish p used) (3 ∷ 2 ∷ 6 ∷ 7 ∷ []) }
+
+-- "4,294,967,295 stands for a missing picture"
+abbrev none : ℕ
+none = 4294967295
+
+-- the five sets
+abbrev numbers : Sets → List (List ℕ)
+numbers x = serialNos (x .before) ∷ serialNos (x .after) ∷ serialNos (x .foll) ∷ serialNos (x .ltCurr) ∷ serialNos (x .ltFoll) ∷ []
+
+-- "LtCurr, then LtFoll: .. Those found become long-term. Then Before, After, Foll: first short-term picture": the error "short-term search before
+-- the long-term marks" finds the four
+pub long-before-short : map (λ (used : Bool). numbers (setsOf 16 four (asksTwice used))) (true ∷ false ∷ [])
+    ≡ ((none ∷ []) ∷ (none ∷ []) ∷ (none ∷ none ∷ []) ∷ (1 ∷ 2 ∷ 3 ∷ 4 ∷ []) ∷ [] ∷ [])
+    ∷ ((none ∷ []) ∷ (none ∷ []) ∷ (none ∷ none ∷ []) ∷ [] ∷ (1 ∷ 2 ∷ 3 ∷ 4 ∷ []) ∷ [])
+    ∷ []
+unfolding keep anyB firstOf longSet shortSet markAll setsOf
+long-before-short = refl
+
+-- "Every picture in none of the sets loses its mark": of two with one POC the one that no set has; the error "membership by POC" keeps both
+pub by-picture : map (λ (p : Picture). p .mark) (marksOf 16 (short 1 2 0 ∷ short 2 2 0 ∷ []) (record { neg = wish 2 true ∷ []; pos = []; lt = [] })) ≡ ShortTerm ∷ Unmarked ∷ []
+unfolding keep anyB firstOf longSet shortSet markAll markOnly setsOf marksOf
+by-picture = refl
+
+-- "latency u16", here 257: "latency ≠ 0 and a waiting picture's count ≥ latency"
+pub late-at : map (λ (n : ℕ). dueLate (limitsOf (6 ∷ 0 ∷ 1 ∷ 0 ∷ 4 ∷ 4 ∷ 4 ∷ 1 ∷ 1 ∷ 1 ∷ [])) (short 1 0 n ∷ [])) (1 ∷ 256 ∷ 257 ∷ 2147483647 ∷ []) ≡ false ∷ false ∷ true ∷ true ∷ []
+unfolding keep anyB dueLate
+late-at = refl
+
+-- "every stored count rises by 1, stopping at 2,147,483,647"
+pub counts-stop : map (λ (n : ℕ). raised (short 1 0 n) .count) (0 ∷ 2147483646 ∷ 2147483647 ∷ []) ≡ 1 ∷ 2147483647 ∷ 2147483647 ∷ []
+counts-stop = refl

@@ -74,7 +74,7 @@ any-at f P (e ∷ H) a k h = split (f e) (λ p. k e (a .0) p) (λ p. any-at f P 
 abbrev W : ℕ → List Line → ℕ
 W n H = count n (serials (wanting H))
 
-wants-cons : (n : ℕ) (e : Line) (H : List Line) → W n (e ∷ H) ≡ cond (e .wants) (hit n (e .serial .0)) 0 + W n H
+pub wants-cons : (n : ℕ) (e : Line) (H : List Line) → W n (e ∷ H) ≡ cond (e .wants) (hit n (e .serial .0)) 0 + W n H
 unfolding wanting keep count
 wants-cons n e H = split (e .wants) (λ w. rw w) (λ w. rw w (omega arith))
 

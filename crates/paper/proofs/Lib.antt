@@ -19,7 +19,9 @@ pub mod Demand3
 pub mod Flow
 pub mod Tidy
 pub mod Accounts
+pub mod Begins
 pub mod Between
+pub mod Broken
 pub mod Fits
 pub mod Normal
 pub mod Nearest
@@ -30,5 +32,4 @@ pub mod Watching
 pub mod Unbroken
 pub mod Demand
 pub mod Refusals
-pub mod Vectors
 pub mod Cases

@@ -9,14 +9,17 @@ use lib.ListN.{length}
 use borrow.Author.Tests.{ne-eqb, le-ltb}
 use Rattle.paper.specs.Numbers.{u16, bytes16, replyLimit, serialNos}
 use Rattle.paper.specs.Words.{allB}
-use Rattle.paper.specs.Records.{kindOf}
+use Rattle.paper.specs.Records.{kindOf, wellFormed}
 use Rattle.paper.specs.State.{Session, fresh}
 use Rattle.paper.specs.Replies.{Reply, framed, words, tailBytes, begunBytes, bytesOf}
-use Rattle.paper.specs.Step.{Decided, Result, decideOf, discardOf, stepOf, sessionAfter}
+use Rattle.paper.specs.Step.{Decided, Result, discardOf, byKind, decideOf, stepOf, sessionAfter}
+use Rattle.paper.specs.WholeReply.{wholeReply}
 use Rattle.paper.specs.Ledger.{readReply}
 use Rattle.paper.specs.Statement.{Bytes}
 use Rattle.paper.proofs.Bools.{by-case}
 use Rattle.paper.proofs.ReadBack.{read-back}
+use Rattle.paper.proofs.WholeBack.{whole-back}
+use Rattle.paper.proofs.Unbroken.{knows}
 use Rattle.paper.proofs.Sound.{Sound, good-step}
 use Rattle.paper.proofs.Demand3.{sound-fresh, sound-after}
 use Rattle.paper.proofs.Fits.{fit-decide}
@@ -91,16 +94,38 @@ says (Reply.Done kind t) h = framed-says (256 + kind) 0 (tailBytes t) h
 says (Reply.Started b t) h = framed-says 258 0 (begunBytes b ++ tailBytes t) h
 says (Reply.Listed l0 l1) h = framed-says 259 0 (length l0 ∷ length l1 ∷ words (serialNos (l0 ++ l1))) h
 
-pub head-says : (s : Session) (r : List ℕ) → length (s .store) ≤ 16 → u16 (stepOf s r replyLimit .bytes) 0 + 4 ≡ length (stepOf s r replyLimit .bytes)
+says-at : (s : Session) (r : List ℕ) → length (s .store) ≤ 16 → u16 (stepOf s r replyLimit .bytes) 0 + 4 ≡ length (stepOf s r replyLimit .bytes)
 unfolding stepOf
-head-says s r i = says (decideOf s r .reply) (fit-decide s r i .bytes)
+says-at s r i = says (decideOf s r .reply) (fit-decide s r i .bytes)
+
+-- of every session from fresh, every record and every buffer that is large enough
+pub head-says : (rs : List (List ℕ)) (r : List ℕ) (room : ℕ) → 512 ≤ room
+    → u16 (stepOf (sessionAfter fresh rs) r room .bytes) 0 + 4 ≡ length (stepOf (sessionAfter fresh rs) r room .bytes)
+head-says rs r room h =
+    let s : Session = sessionAfter fresh rs in
+    let b = bounded-after rs in
+    rw (large-room s r room (le-ltb room 512 h)) (says-at s r (omega (arith, b .most, b .room)))
+
+-- the bytes of a session's reply are a whole reply
+whole-at : (s : Session) (r : List ℕ) → Sound s → length (s .store) ≤ 16 → allB (λ (b : ℕ). ltb b 256) r ≡ true → wholeReply (stepOf s r replyLimit .bytes) ≡ true
+unfolding stepOf
+whole-at s r i room b = whole-back (decideOf s r .reply) (good-step s r i b .fit) (knows s r) (fit-decide s r room .bytes)
+
+pub whole-after : (rs : List (List ℕ)) (r : List ℕ) (room : ℕ) → Bytes rs → allB (λ (b : ℕ). ltb b 256) r ≡ true → 512 ≤ room → wholeReply (stepOf (sessionAfter fresh rs) r room .bytes) ≡ true
+whole-after rs r room a b h =
+    let s : Session = sessionAfter fresh rs in
+    let i = bounded-after rs in
+    rw (large-room s r room (le-ltb room 512 h)) (whole-at s r (sound-after fresh rs sound-fresh a) (omega (arith, i .most, i .room)) b)
 
 -- reading back a written reply gives what was decided
 pub reads-back : (rs : List (List ℕ)) (r : List ℕ) → Bytes rs → allB (λ (b : ℕ). ltb b 256) r ≡ true → readReply (stepOf (sessionAfter fresh rs) r replyLimit .bytes) ≡ decideOf (sessionAfter fresh rs) r .reply
 unfolding stepOf
 reads-back rs r a b = read-back (decideOf (sessionAfter fresh rs) r .reply) (good-step (sessionAfter fresh rs) r (sound-after fresh rs sound-fresh a) b .fit)
 
--- discard is always accepted
-pub discard-accepted : (s : Session) → discardOf s .number ≡ 0
-unfolding discardOf
-discard-accepted s = refl
+-- a discard record is always accepted, from any session value
+discard-at : (s : Session) → stepOf s (0 ∷ 0 ∷ 6 ∷ 0 ∷ []) replyLimit .number ≡ 0
+unfolding stepOf decideOf wellFormed byKind discardOf
+discard-at s = refl
+
+pub discard-accepted : (s : Session) (room : ℕ) → 512 ≤ room → stepOf s (0 ∷ 0 ∷ 6 ∷ 0 ∷ []) room .number ≡ 0
+discard-accepted s room h = rw (large-room s (0 ∷ 0 ∷ 6 ∷ 0 ∷ []) room (le-ltb room 512 h)) (discard-at s)

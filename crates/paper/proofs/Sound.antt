@@ -22,14 +22,14 @@ use Rattle.paper.specs.State.{Session, Refs, noRefs, allRefs, isCurrent,
 use Rattle.paper.specs.Ranges.{beginRanges, configureRanges}
 use Rattle.paper.specs.Poc.{in32}
 use Rattle.paper.specs.Sets.{Sets, marked, inOrder, refsOf, wishesIn32}
-use Rattle.paper.specs.Output.{Tail, quiet, joined, Moved, still, andThen, done as quietly, cleared, emptied, handWhile, dueLate, due, removed, beforeDecoding}
+use Rattle.paper.specs.Output.{Tail, quiet, joined, Moved, still, andThen, done as quietly, cleared, emptied, handWhile, dueLate, due, inUse, removed, beforeDecoding}
 use Rattle.paper.specs.Begin.{sets, markedStore, begunCurrent, noPrior, startsOver, within, poc, roomMade, begunSession}
 use Rattle.paper.specs.RefLists.{ownOf, candidates0, candidates1, placed, lastIsOwn, list0, list1}
 use Rattle.paper.specs.Calls.{raised, stored, finished, drained, drainedNow, dropped, discarded, finishedSession, drainedSession, configuredSession, discardedSession, abandonedSession, endedSession}
 use Rattle.paper.specs.Replies.{Reply, Begun}
 use Rattle.paper.specs.Step.{Decided, refused, accepted, begunOf, heldBy, decideOf}
 use Rattle.paper.specs.declared.Line.{Line}
-use Rattle.paper.specs.Ledger.{Ledger, Event, mayAll, uponAll, events, none, names, lies, landed, abandoned, unchanged, lineOf, tell}
+use Rattle.paper.specs.Ledger.{Ledger, Event, mayAll, uponAll, events, none, names, clearing, lies, landed, abandoned, unchanged, lineOf, tell}
 use Rattle.paper.specs.Statement.{line, currentLine, ledgerOf}
 use Rattle.paper.specs.declared.Prev.the-variants as Prev
 use Rattle.paper.specs.declared.Now.the-variants as Now
@@ -166,18 +166,34 @@ unfolding none
 none-current Now.Idle e = refl
 none-current (Now.Is c) e = sym e
 
+-- of step 5 only the clear throws away, and it leaves nothing
+begin-clears : (s : Session) (f : Fields) → clearing (begunOf s f) (roomMade s f .tail) (map line (roomMade s f .pics)) ≡ true
+unfolding roomMade beforeDecoding cleared removed none
+begin-clears s f =
+    by-case (λ (m : Moved). clearing (begunOf s f) (m .tail) (map line (m .pics)) ≡ true) (startsOver s f && not (s .ended)) _ _
+    (λ _. by-case (λ (m : Moved). clearing (begunOf s f) (m .tail) (map line (m .pics)) ≡ true) (noPrior s f) (cleared (markedStore s f)) (emptied (markedStore s f))
+    (λ p. clear-clears p) (λ _. or-left _ _ (nothing (emptied-throws (markedStore s f)))))
+    (λ _. or-left _ _ (nothing remove-throws))
+  where
+    clear-clears : noPrior s f ≡ true → clearing (begunOf s f) (cleared (markedStore s f) .tail) (map line (cleared (markedStore s f) .pics)) ≡ true
+    clear-clears p = or-right (none (cleared (markedStore s f) .tail .thrown)) _ (rw p)
+
+    remove-throws : andThen (removed (markedStore s f)) (handWhile (due true (s .limits))) .tail .thrown ≡ []
+    remove-throws = while-throws (due true (s .limits)) (keep inUse (markedStore s f))
+
 -- begin's line in the ledger
 tells-begun : (s : Session) (r : List ℕ) → Sound s → Accepted s (fieldsOf r) → Runs (events (roomMade s (fieldsOf r) .tail)) (map line (s .store)) (map line (roomMade s (fieldsOf r) .pics))
-    → Distinct (markedStore s (fieldsOf r))
+    → Distinct (markedStore s (fieldsOf r)) → clearing (begunOf s (fieldsOf r)) (roomMade s (fieldsOf r) .tail) (map line (roomMade s (fieldsOf r) .pics)) ≡ true
     → tell (ledgerOf s) r (Reply.Started (begunOf s (fieldsOf r)) (roomMade s (fieldsOf r) .tail)) ≡ ledgerOf (begunSession s (fieldsOf r))
 unfolding tell none begunCurrent fieldsOf
-tells-begun s r i z run d =
+tells-begun s r i z run d k =
     let f = fieldsOf r in
     ledgers (run .leads) refl
     (both (none-current (s .current) (z .idle))
     (both (same-eqb (s .next))
     (both (free-line (f .surface) (s .store) (z .free))
-    (both (run .allowed) (ap (λ (H : List Line). names (inOrder (sets s f)) H) (run .leads) ∙ begin-names s f d)))))
+    (both (run .allowed) (both (ap (λ (H : List Line). clearing (begunOf s f) (roomMade s f .tail) H) (run .leads) ∙ k)
+    (ap (λ (H : List Line). names (inOrder (sets s f)) H) (run .leads) ∙ begin-names s f d))))))
 
 module _ (s : Session) (r : List ℕ) (i : Sound s) (bytes : allB (λ (b : ℕ). ltb b 256) r ≡ true) where
   good-refused : (kind n : ℕ) → kind < 65536 → n < 65536 → (n ≡ 0 → ⊥) → Good s r (refused s kind n)
@@ -408,7 +424,7 @@ module _ (s : Session) (r : List ℕ) (i : Sound s) (bytes : allB (λ (b : ℕ).
     good-begin =
         let f = fieldsOf r in
         record {
-          tells = tells-begun s r i z (before-runs f) (marked-distinct f);
+          tells = tells-begun s r i z (before-runs f) (marked-distinct f) (begin-clears s f);
           sound = sound-begun f (z .free) (surface-word r bytes) (poc-near s f z) (z .roomy);
           fit = (record { poc = poc-near s f z; serial = omega (arith, i .small); sets = fit-names (inOrder (sets s f)) (map line (roomMade s f .pics)) left-fit (begin-names s f (marked-distinct f)) }, fit-tail (roomMade s f .tail) _ _ (lines-fit (s .store) store-below) (before-runs f));
         }

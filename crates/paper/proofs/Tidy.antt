@@ -45,7 +45,7 @@ module _ (P : Line → Type 0) (stays : (n : ℕ) (e : Line) → P e → P (off 
   all-upon (Throw n) H a = all-map P P (off (n .0)) (stays (n .0)) H a
   all-upon (Free x) H a = all-keep P (λ (e : Line). not (lies (x .0) e)) H a
 
-  all-after : (es : List Event) (H : List Line) → All P H → All P (uponAll es H)
+  pub all-after : (es : List Event) (H : List Line) → All P H → All P (uponAll es H)
   unfolding uponAll
   all-after [] H a = a
   all-after (e ∷ es) H a = all-after es (upon e H) (all-upon e H a)

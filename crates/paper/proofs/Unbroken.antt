@@ -18,7 +18,7 @@ use Rattle.paper.specs.Output.{Tail}
 use Rattle.paper.specs.Replies.{Begun, Reply, bytesOf}
 use Rattle.paper.specs.Step.{Decided, decideOf, stepOf, replies}
 use Rattle.paper.specs.WholeReply.{wholeReply}
-use Rattle.paper.specs.Ledger.{Ledger, Event, Hand, Throw, Free, waitsAs, waits, lies, quietAt, may, mayAll, upon, uponAll, events, none, names, landed, abandoned, unchanged, tell, heard, hear, blank, readReply}
+use Rattle.paper.specs.Ledger.{Ledger, Event, Hand, Throw, Free, waitsAs, waits, lies, quietAt, may, mayAll, upon, uponAll, events, none, names, clearing, landed, abandoned, unchanged, tell, heard, hear, blank, readReply}
 use Rattle.paper.specs.Statement.{line, ledgerOf, Bytes}
 use Rattle.paper.specs.Watch.{eventPart, tailPart, _told, startedPart, listedPart, endPart, abandonPart, landedPart, replyPart, partOf, watched}
 use Rattle.paper.proofs.Bools as B
@@ -56,7 +56,8 @@ module _ (L : Ledger) (r : List ℕ) where
       let f = no-of (anyB (lies (u32 r 9)) (L .held)) (left (not (anyB (lies (u32 r 9)) (L .held))) _ o3) in
       let o4 = right (not (anyB (lies (u32 r 9)) (L .held))) _ o3 in
       let m = tail-none (events t) (L .held) (left (mayAll (events t) (L .held)) _ o4) in
-      rw (left (none (L .current)) _ o1, left (eqb (b .serial .0) (L .begun)) _ o2, f, m, right (mayAll (events t) (L .held)) _ o4)
+      let o5 = right (mayAll (events t) (L .held)) _ o4 in
+      rw (left (none (L .current)) _ o1, left (eqb (b .serial .0) (L .begun)) _ o2, f, m, left (clearing b t (uponAll (events t) (L .held))) _ o5, right (clearing b t (uponAll (events t) (L .held))) _ o5)
 
   listed-none : (l0 l1 : List Serial) → tell L r (Reply.Listed l0 l1) .ok ≡ true → listedPart L (l0 ++ l1) ≡ 0
   unfolding tell first

@@ -15,7 +15,7 @@ use Rattle.paper.specs.Sets.{inOrder}
 use Rattle.paper.specs.Output.{Tail}
 use Rattle.paper.specs.Replies.{Begun, Reply}
 use Rattle.paper.specs.WholeReply.{wholeReply}
-use Rattle.paper.specs.Ledger.{Ledger, Event, Hand, Throw, Free, Exchange, waitsAs, waits, lies, quietAt, may, mayAll, upon, uponAll, events, none, names, landed, abandoned, unchanged, tell, heard, hear, told, blank, readReply}
+use Rattle.paper.specs.Ledger.{Ledger, Event, Hand, Throw, Free, Exchange, waitsAs, waits, lies, quietAt, may, mayAll, upon, uponAll, events, none, names, clearing, landed, abandoned, unchanged, tell, heard, hear, told, blank, readReply}
 use Rattle.paper.specs.Statement.{Kept}
 use Rattle.paper.specs.Watch.{eventPart, tailPart, _told, startedPart, listedPart, endPart, abandonPart, landedPart, replyPart, partOf, Verdict, watched, pairs}
 use Rattle.paper.proofs.Bools as B
@@ -57,8 +57,9 @@ module _ (L : Ledger) (r : List ℕ) (o : L .ok ≡ true) where
       let t2 = first-none (not (eqb (b .serial .0) (L .begun))) 4 _ (λ e. omega arith) (t1 .1) in
       let t3 = first-none (anyB (lies (u32 r 9)) (L .held)) 5 _ (λ e. omega arith) (t2 .1) in
       let t4 = said-none (tailPart (events t) (L .held)) _ (t3 .1) in
-      let t5 = first-none (not (names (inOrder (b .sets)) (uponAll (events t) (L .held)))) 12 [] (λ e. omega arith) (t4 .1) in
-      both o (both (yes-of (none (L .current)) (t1 .0)) (both (yes-of (eqb (b .serial .0) (L .begun)) (t2 .0)) (both {a = not (anyB (lies (u32 r 9)) (L .held))} (rw (t3 .0)) (both (tail-may (events t) (L .held) (t4 .0)) (yes-of (names (inOrder (b .sets)) (uponAll (events t) (L .held))) (t5 .0))))))
+      let t6 = first-none (not (clearing b t (uponAll (events t) (L .held)))) 19 _ (λ e. omega arith) (t4 .1) in
+      let t5 = first-none (not (names (inOrder (b .sets)) (uponAll (events t) (L .held)))) 12 [] (λ e. omega arith) (t6 .1) in
+      both o (both (yes-of (none (L .current)) (t1 .0)) (both (yes-of (eqb (b .serial .0) (L .begun)) (t2 .0)) (both {a = not (anyB (lies (u32 r 9)) (L .held))} (rw (t3 .0)) (both (tail-may (events t) (L .held) (t4 .0)) (both (yes-of (clearing b t (uponAll (events t) (L .held))) (t6 .0)) (yes-of (names (inOrder (b .sets)) (uponAll (events t) (L .held))) (t5 .0)))))))
 
   listed-ok : (l0 l1 : List Serial) → listedPart L (l0 ++ l1) ≡ 0 → tell L r (Reply.Listed l0 l1) .ok ≡ true
   unfolding tell

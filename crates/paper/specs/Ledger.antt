@@ -141,6 +141,11 @@ none (x ∷ xs) = false
 unfoldable pub names : List Serial → List Line → Bool
 names ns H = allB (λ (n : Serial). sameSerial n missing || anyB (λ (e : Line). eqb (n .0) (e .serial .0)) H) ns
 
+-- "clear if no output of prior pictures (those waiting are thrown away)": a begin throws away only where its reply says so; then it
+-- hands nothing out and leaves none of the stored pictures, H
+abbrev pub clearing : Begun → Tail → List Line → Bool
+clearing b t H = none (t .thrown) || (b .noPrior && (none (t .handed) && none H))
+
 abbrev pub lineOf : List ℕ → Begun → Line
 lineOf r b = record { serial = b .serial; surface = aSurface (u32 r 9); poc = b .poc; wants = b .output }
 
@@ -182,7 +187,8 @@ tell L r (Reply.Started b t) =
       begun = L .begun + 1;
       ok =
           L .ok && (none (L .current) && (eqb (b .serial .0) (L .begun) && (not (anyB (lies (u32 r 9)) (L .held))
-          && (mayAll (events t) (L .held) && names (inOrder (b .sets)) (uponAll (events t) (L .held))))));
+          && (mayAll (events t) (L .held) && (clearing b t (uponAll (events t) (L .held))
+          && names (inOrder (b .sets)) (uponAll (events t) (L .held)))))));
     }
 tell L r (Reply.Listed l0 l1) =
     record { held = L .held; current = L .current; begun = L .begun; ok = L .ok && (not (none (L .current)) && names (l0 ++ l1) (L .held ++ L .current)) }

@@ -2,20 +2,21 @@
 use Prim.Native.Nat.{ℕ, _+_}
 use mathlib.Core.Path.{_≡_}
 use mathlib.Core.List.{List, [], _∷_, _++_, map}
-use mathlib.Core.Bool.{Bool, true}
-use lib.Dec.{ltb}
+use mathlib.Core.Bool.{Bool, true, false, not, _&&_, _||_}
+use lib.Dec.{ltb, eqb}
 use Rattle.paper.specs.declared.Serial.{Serial}
 use Rattle.paper.specs.declared.Current.{Current}
 use Rattle.paper.specs.declared.Picture.{Picture}
 use Rattle.paper.specs.Words.{allB}
-use Rattle.paper.specs.Numbers.{u32, replyLimit}
+use Rattle.paper.specs.Numbers.{u32, sameSerial, replyLimit}
+use Rattle.paper.specs.Records.{kindOf}
 use Rattle.paper.specs.State.{Session, fresh, onNow}
 use Rattle.paper.specs.Output.{Tail}
 use Rattle.paper.specs.Replies.{Begun, Reply}
 use Rattle.paper.specs.Step.{Call, stepOf, afterCalls, answeredOf}
 use Rattle.paper.specs.declared.Line.{Line}
-use Rattle.paper.specs.Ledger.{Ledger, Exchange, linesOf, names, blank, told, readReply}
-use Rattle.paper.specs.Accounts.{Accounts, count, surfaces, begunAll, releasedAll}
+use Rattle.paper.specs.Ledger.{Ledger, Exchange, linesOf, lies, uponAll, events, none, names, blank, told, readReply}
+use Rattle.paper.specs.Accounts.{Accounts, count, serials, surfaces, wanting, tailIn, begunAll, handedAll, thrownAll, releasedAll}
 
 -- the exchanges of a session with some records
 unfoldable pub exchanges : Session → List (List ℕ) → List Exchange
@@ -37,22 +38,81 @@ ledgerOf s =
 abbrev pub Bytes : List (List ℕ) → Type 0
 Bytes rs = allB (allB (λ (b : ℕ). ltb b 256)) rs ≡ true
 
--- DEMAND 3 of some exchanges, whoever wrote the replies: all told from records and replies
+-- THE SENTENCES OF DEMAND 3, of some exchanges, whoever wrote the replies: all told from records and replies.
+
+-- the reply accepts a begin: what it says of its picture, and its tail
+abbrev pub Begins : Exchange → Begun → Tail → Type 0
+Begins x b t = readReply (x .answered) ≡ Reply.Started b t
+
+-- the surface that a begin names
+abbrev pub onSurface : Exchange → ℕ
+onSurface x = u32 (x .said) 9
+
+-- the ledger that they tell was in order all the way: each reply is one to its record, and each tail, set and list agrees with what is held
+abbrev pub InOrder : List Exchange → Type 0
+InOrder xs = told blank xs .ok ≡ true
+
+-- each picture begun with output flag 1 is exactly one of these: current, waiting, handed out once, thrown away once
+abbrev pub ExactlyOne : List Exchange → Type 0
+ExactlyOne xs = (bs ls : List Exchange) (x : Exchange) (b : Begun) (t : Tail) → xs ≡ bs ++ (x ∷ ls) → Begins x b t → b .output ≡ true
+    → count (b .serial .0) (serials (told blank xs .current)) + count (b .serial .0) (serials (wanting (told blank xs .held)))
+    + count (b .serial .0) (handedAll xs) + count (b .serial .0) (thrownAll xs) ≡ 1
+
+-- between an accepted begin and the next accepted begin on its surface, the surface is released exactly once: in the replies between
+-- the two, so neither begin's own reply counts
+abbrev pub Between : List Exchange → Type 0
+Between xs = (bs ms ls : List Exchange) (x y : Exchange) (b c : Begun) (t u : Tail) → xs ≡ bs ++ (x ∷ ms ++ (y ∷ ls)) → Begins x b t → Begins y c u
+    → onSurface y ≡ onSurface x → count (onSurface x) (surfaces (begunAll ms)) ≡ 0
+    → count (onSurface x) (releasedAll ms) ≡ 1
+
+-- after the last accepted begin on a surface, the surface is still held or was released exactly once
+abbrev pub Once : List Exchange → Type 0
+Once xs = (bs ls : List Exchange) (x : Exchange) (b : Begun) (t : Tail) → xs ≡ bs ++ (x ∷ ls) → Begins x b t → count (onSurface x) (surfaces (begunAll ls)) ≡ 0
+    → count (onSurface x) (surfaces (linesOf (told blank xs))) + count (onSurface x) (releasedAll ls) ≡ 1
+
+-- where it is still held, it is held from that begin: whatever lies there has the serial that the begin's reply gave
+abbrev pub HeldFrom : List Exchange → Type 0
+HeldFrom xs = (bs ls : List Exchange) (x : Exchange) (b : Begun) (t : Tail) → xs ≡ bs ++ (x ∷ ls) → Begins x b t → count (onSurface x) (surfaces (begunAll ls)) ≡ 0
+    → allB (λ (e : Line). not (lies (onSurface x) e) || sameSerial (e .serial) (b .serial)) (linesOf (told blank xs)) ≡ true
+
+-- at an accepted begin nothing lies on its surface
+abbrev pub Free : List Exchange → Type 0
+Free xs = (bs ls : List Exchange) (x : Exchange) (b : Begun) (t : Tail) → xs ≡ bs ++ (x ∷ ls) → Begins x b t → count (onSurface x) (surfaces (linesOf (told blank bs))) ≡ 0
+
+-- the calls that throw away: an accepted begin (2) that says no output of prior pictures, discard (6), abandon (8)
+unfoldable pub throwsAway : List ℕ → Reply → Bool
+throwsAway r (Reply.Refused kind n) = false
+throwsAway r (Reply.Done kind t) = eqb (kindOf r) 6 || eqb (kindOf r) 8
+throwsAway r (Reply.Started b t) = eqb (kindOf r) 2 && b .noPrior
+throwsAway r (Reply.Listed l0 l1) = false
+
+-- thrown away by a named call: where a reply throws something away, its call is one of these
+abbrev pub NamedCall : List Exchange → Type 0
+NamedCall xs = (bs ls : List Exchange) (x : Exchange) → xs ≡ bs ++ (x ∷ ls) → none (tailIn (readReply (x .answered)) .thrown) ≡ false
+    → throwsAway (x .said) (readReply (x .answered)) ≡ true
+
+-- a begin throws away only by step 5's clear: it hands nothing out, and none of the pictures that were stored is left
+abbrev pub Clears : List Exchange → Type 0
+Clears xs = (bs ls : List Exchange) (x : Exchange) (b : Begun) (t : Tail) → xs ≡ bs ++ (x ∷ ls) → Begins x b t → none (t .thrown) ≡ false
+    → (t .handed ≡ []) × (uponAll (events t) (told blank bs .held) ≡ [])
+
+-- a list names only the current picture, missing entries and stored pictures whose surfaces are unreleased
+abbrev pub Lists : List Exchange → Type 0
+Lists xs = (bs ls : List Exchange) (x : Exchange) (l0 l1 : List Serial) → xs ≡ bs ++ (x ∷ ls) → readReply (x .answered) ≡ Reply.Listed l0 l1
+    → names (l0 ++ l1) (linesOf (told blank bs)) ≡ true
+
+-- DEMAND 3 of some exchanges: all of these, and the accounts
 pub record Kept (xs : List Exchange) : Type 0 where
-  -- the ledger that they tell was in order all the way: each tail, set and list
-  pub in-order : told blank xs .ok ≡ true
-  -- each picture with output flag 1 is exactly one of current or waiting, handed out once, thrown away
+  pub in-order : InOrder xs
   pub sums : Accounts xs (told blank xs)
-  -- a begin's surface, until the next accepted begin on it, is still held or was released exactly once
-  pub once : (bs ls : List Exchange) (x : Exchange) (b : Begun) (t : Tail) → xs ≡ bs ++ (x ∷ ls) → readReply (x .answered) ≡ Reply.Started b t
-      → count (u32 (x .said) 9) (surfaces (begunAll ls)) ≡ 0
-      → count (u32 (x .said) 9) (surfaces (linesOf (told blank xs))) + count (u32 (x .said) 9) (releasedAll ls) ≡ 1
-  -- at an accepted begin nothing lies on its surface
-  pub free : (bs ls : List Exchange) (x : Exchange) (b : Begun) (t : Tail) → xs ≡ bs ++ (x ∷ ls) → readReply (x .answered) ≡ Reply.Started b t
-      → count (u32 (x .said) 9) (surfaces (linesOf (told blank bs))) ≡ 0
-  -- a list names only the current picture, missing entries and stored pictures whose surfaces are unreleased
-  pub lists : (bs ls : List Exchange) (x : Exchange) (l0 l1 : List Serial) → xs ≡ bs ++ (x ∷ ls) → readReply (x .answered) ≡ Reply.Listed l0 l1
-      → names (l0 ++ l1) (linesOf (told blank bs)) ≡ true
+  pub exactly-one : ExactlyOne xs
+  pub between : Between xs
+  pub once : Once xs
+  pub held-from : HeldFrom xs
+  pub free : Free xs
+  pub named-call : NamedCall xs
+  pub clears : Clears xs
+  pub lists : Lists xs
 
 -- DEMAND 3 as one statement: from a fresh session, after any calls with any buffers, refused ones too. rs are the records that were answered.
 pub record Statement (cs : List Call) (rs : List (List ℕ)) : Type 0 where

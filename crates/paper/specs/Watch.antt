@@ -12,7 +12,7 @@ use Rattle.paper.specs.Sets.{inOrder}
 use Rattle.paper.specs.Output.{Tail}
 use Rattle.paper.specs.Replies.{Begun, Reply}
 use Rattle.paper.specs.WholeReply.{wholeReply}
-use Rattle.paper.specs.Ledger.{Ledger, Event, Hand, Throw, Free, Exchange, waitsAs, waits, lies, quietAt, upon, uponAll, events, none, names, heard, hear, readReply}
+use Rattle.paper.specs.Ledger.{Ledger, Event, Hand, Throw, Free, Exchange, waitsAs, waits, lies, quietAt, upon, uponAll, events, none, names, clearing, heard, hear, readReply}
 
 -- 6: handed out, and no picture of that serial waits; 7: one waits, on another surface or with another POC
 -- 8: thrown away, and no picture of that serial waits
@@ -33,12 +33,14 @@ abbrev pub _told : ℕ → Test
 n told = not (eqb n 0) gives n
 
 -- 3: begun while a picture is current; 4: not the next serial; 5: on a surface that is held; 12: a set or list names a picture that is not held
+-- 19: thrown away by a begin that says nothing of no output of prior pictures, that hands out too, or that leaves a stored picture
 abbrev pub startedPart : Ledger → List ℕ → Begun → Tail → ℕ
 startedPart L r b t =
     first (not (none (L .current)) gives 3
     ∷ not (eqb (b .serial .0) (L .begun)) gives 4
     ∷ anyB (lies (u32 r 9)) (L .held) gives 5
     ∷ tailPart (events t) (L .held) told
+    ∷ not (clearing b t (uponAll (events t) (L .held))) gives 19
     ∷ not (names (inOrder (b .sets)) (uponAll (events t) (L .held))) gives 12
     ∷ [])
 

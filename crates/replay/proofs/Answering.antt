@@ -13,7 +13,7 @@ use Rattle.paper.specs.Words.{allB}
 use Rattle.paper.specs.Records.{lengthOf}
 use Rattle.paper.specs.State as P
 use Rattle.paper.specs.Step.{Result, stepOf, replies, sessionAfter}
-use Rattle.paper.proofs.Bools.{both, left, right}
+use Rattle.paper.proofs.Bools.{both, left}
 use Rattle.session.specs.declared.Answer.{Answer}
 use Rattle.session.specs.Said.{Permitted}
 use Rattle.session.specs.View.{Memory, sessionIn}
@@ -21,6 +21,7 @@ use Rattle.framing.specs.Cut.{joined, isWhole}
 use Rattle.replay.specs.Answers.{Added, Answers}
 use Rattle.framing.specs.Cut.{sizeOf}
 use Rattle.framing.proofs.Fitting.{size-whole, size-short}
+use Rattle.framing.proofs.Cutting.{joined-append, all-append}
 use Rattle.replay.proofs.Fitting.{reply-fits}
 
 -- ---- one reply
@@ -70,28 +71,23 @@ module _ {m m′ : Memory} {r part : List ℕ} {a : Answer} (made : ℕ) (before
 
 -- ---- one record more
 
+pub replies-append : (v : P.Session) (rs qs : List (List ℕ)) → replies v (rs ++ qs) ≡ replies v rs ++ replies (sessionAfter v rs) qs
+unfolding replies sessionAfter
+replies-append v [] qs = refl
+replies-append v (r ∷ rs) qs = ap (λ (x : List (List ℕ)). stepOf v r 512 .bytes ∷ x) (replies-append (stepOf v r 512 .next) rs qs)
+
+pub after-append : (v : P.Session) (rs qs : List (List ℕ)) → sessionAfter v (rs ++ qs) ≡ sessionAfter (sessionAfter v rs) qs
+unfolding sessionAfter
+after-append v [] qs = refl
+after-append v (r ∷ rs) qs = after-append (stepOf v r 512 .next) rs qs
+
 joined-more : (rs : List (List ℕ)) (r : List ℕ) → joined (rs ++ (r ∷ [])) ≡ joined rs ++ r
 unfolding joined
-joined-more [] r = append-nil r
-joined-more (q ∷ rs) r = ap (λ (x : List ℕ). q ++ x) (joined-more rs r) ∙ sym (append-assoc q (joined rs) r)
+joined-more rs r = joined-append rs (r ∷ []) ∙ ap (λ (x : List ℕ). joined rs ++ x) (append-nil r)
 
 replies-more : (v : P.Session) (rs : List (List ℕ)) (r : List ℕ) → joined (replies v (rs ++ (r ∷ []))) ≡ joined (replies v rs) ++ stepOf (sessionAfter v rs) r 512 .bytes
-unfolding joined replies sessionAfter
-replies-more v [] r = append-nil _
-replies-more v (q ∷ rs) r =
-    let b = stepOf v q 512 .bytes in
-    let n = stepOf v q 512 .next in
-    ap (λ (x : List ℕ). b ++ x) (replies-more n rs r) ∙ sym (append-assoc b (joined (replies n rs)) _)
-
-after-more : (v : P.Session) (rs : List (List ℕ)) (r : List ℕ) → sessionAfter v (rs ++ (r ∷ [])) ≡ stepOf (sessionAfter v rs) r 512 .next
-unfolding sessionAfter
-after-more v [] r = refl
-after-more v (q ∷ rs) r = after-more (stepOf v q 512 .next) rs r
-
-whole-more : (rs : List (List ℕ)) (r : List ℕ) → allB isWhole rs ≡ true → isWhole r ≡ true → allB isWhole (rs ++ (r ∷ [])) ≡ true
-unfolding allB
-whole-more [] r a b = both b refl
-whole-more (q ∷ rs) r a b = both (left (isWhole q) (allB isWhole rs) a) (whole-more rs r (right (isWhole q) (allB isWhole rs) a) b)
+unfolding replies
+replies-more v rs r = ap joined (replies-append v rs (r ∷ [])) ∙ joined-more (replies v rs) (stepOf (sessionAfter v rs) r 512 .bytes)
 
 pub nothing-yet : (m : Memory) (input output : List ℕ) → Answers m input m 0 0 output
 unfolding joined replies sessionAfter allB
@@ -100,6 +96,7 @@ nothing-yet m input output = record { said = []; whole = refl; cut = refl; repli
 module _ {m next m′ : Memory} {input output : List ℕ} {a : Answer} (taken made n : ℕ) (after : List ℕ) (h : 0 < n) (e : n ≡ sizeOf (drop taken input))
     (g : Answers m input next taken made output) (d : Added next (take (taken + n - taken) (drop taken input)) made output a m′ after) where
   pub one-answered : Answers m input m′ (taken + n) (made + a .len) after
+  unfolding allB sessionAfter
   one-answered =
       let k : taken + n - taken ≡ n = omega arith in
       let r = take n (drop taken input) in
@@ -107,10 +104,10 @@ module _ {m next m′ : Memory} {input output : List ℕ} {a : Answer} (taken ma
       let rs = g .said in
       record {
         said = rs ++ (r ∷ []);
-        whole = whole-more rs r (g .whole) (size-whole (drop taken input) n h e);
+        whole = all-append isWhole rs (r ∷ []) (g .whole) (both (size-whole (drop taken input) n h e) refl);
         cut = take-add taken n input ∙ ap (λ (x : List ℕ). x ++ r) (g .cut) ∙ sym (joined-more rs r);
         replied = b .bytes ∙ ap₂ (λ (x : List ℕ) (v : P.Session). x ++ stepOf v r 512 .bytes) (g .replied) (g .after) ∙ sym (replies-more (sessionIn m) rs r);
-        after = b .next ∙ ap (λ (v : P.Session). stepOf v r 512 .next) (g .after) ∙ sym (after-more (sessionIn m) rs r);
+        after = b .next ∙ ap (λ (v : P.Session). stepOf v r 512 .next) (g .after) ∙ sym (after-append (sessionIn m) rs (r ∷ []));
       }
 
 -- ---- nothing whole

@@ -1,25 +1,132 @@
--- What the program answers from a fresh session are the paper's replies, which its contracts cite: a ledger over them finds nothing broken.
-use mathlib.Core.Path.{_≡_, ap, _∙_}
-use mathlib.Core.List.{List}
-use Prim.Native.Nat.{ℕ}
+-- Demand 3 of the program's own bytes: from memory that `fresh` made, whatever the reads of its turns brought, the blocks that the turns made are the paper's replies to
+-- the whole records in it; as cut by their heads these exchanges keep demand 3, and a ledger over them finds nothing broken.
+use Prim.Native.Nat.{ℕ, suc, _+_}
+use mathlib.Core.Path.{_≡_, refl, sym, ap, ap₂, subst, _∙_}
+use mathlib.Core.List.{List, [], _∷_, _++_, map, append-nil}
+use mathlib.Core.Bool.{Bool, true}
+use native.Mathlib.Omega.{arith}
+use lib.Dec.{ltb}
+use lib.ListN.{length}
+use borrow.Author.Tests.{eq-eqb}
+use Rattle.paper.specs.Words.{allB}
+use Rattle.paper.specs.Records.{lengthOf}
 use Rattle.paper.specs.State.{fresh}
 use Rattle.paper.specs.State as P
-use Rattle.paper.specs.Step.{replies}
-use Rattle.paper.specs.Ledger.{blank}
-use Rattle.paper.specs.Statement.{Bytes, Kept}
+use Rattle.paper.specs.Step.{Call, stepOf, replies, sessionAfter, answeredOf}
+use Rattle.paper.specs.Ledger.{Exchange, blank, told}
+use Rattle.paper.specs.Statement.{Bytes, Kept, Statement, exchanges, ledgerOf}
 use Rattle.paper.specs.Watch.{watched, pairs}
-use Rattle.paper.proofs.Watching.{watched-kept}
+use Rattle.paper.proofs.Bools.{both}
+use Rattle.paper.proofs.Normal.{bounded-after}
+use Rattle.paper.proofs.Rooms.{any-room}
+use Rattle.paper.proofs.Refusals.{head-says}
+use Rattle.paper.proofs.Demand.{demand}
 use Rattle.paper.proofs.Unbroken.{watched-fresh}
-use Rattle.session.specs.View.{Memory, sessionIn}
+use Rattle.framing.specs.Cut.{Parts, sizeOf, joined, isWhole, cut, restOf}
+use Rattle.framing.proofs.Cutting.{parts-none, front-cut, one-cut, all-parts, all-joined}
+use Rattle.session.specs.View.{sessionIn}
+use Rattle.replay.specs.Turns.{Stand, waiting, Turn, Turns, broughtIn, madeIn, Took, KeptRun}
+use Rattle.replay.proofs.Answering.{after-append}
+use Rattle.replay.proofs.Runs.{took}
 
-module _ (m : Memory) (start : sessionIn m ≡ fresh) (rs : List (List ℕ)) where
-  -- from the memory that `fresh` leaves, the replies to whole records are the paper's from its fresh session
-  pub replay-replies : replies (sessionIn m) rs ≡ replies fresh rs
-  replay-replies = ap (λ (v : P.Session). replies v rs) start
+-- ---- a session's replies
 
-  -- A LEDGER OVER THEM FINDS NOTHING BROKEN, and the records and replies keep demand 3
-  pub replay-unbroken : Bytes rs → watched 1 blank rs (replies (sessionIn m) rs) .part ≡ 0
-  replay-unbroken b = ap (λ (answers : List (List ℕ)). watched 1 blank rs answers .part) replay-replies ∙ watched-fresh rs b
+-- as many as records
+as-many : (s : P.Session) (rs : List (List ℕ)) → length rs ≡ length (replies s rs)
+unfolding replies
+as-many s [] = refl
+as-many s (r ∷ rs) = ap suc (as-many (stepOf s r 512 .next) rs)
 
-  pub replay-kept : Bytes rs → Kept (pairs rs (replies (sessionIn m) rs))
-  replay-kept b = watched-kept rs (replies (sessionIn m) rs) (replay-unbroken b)
+-- each is whole: its head says its length
+replies-whole : (rs qs : List (List ℕ)) → allB isWhole (replies (sessionAfter fresh rs) qs) ≡ true
+unfolding replies allB sessionAfter
+replies-whole rs [] = refl
+replies-whole rs (q ∷ qs) =
+    let v = sessionAfter fresh rs in
+    let b = bounded-after rs in
+    let a = stepOf v q 512 .bytes in
+    let h = head-says v q (omega (arith, b .most, b .room)) in
+    both (eq-eqb (length a) (4 + lengthOf a) (omega (arith, h))) (subst (λ (s : P.Session). allB isWhole (replies s qs) ≡ true) (after-append fresh rs (q ∷ [])) (replies-whole (rs ++ (q ∷ [])) qs))
+
+-- with its records, and whatever records come behind these, they are the session's exchanges
+pairs-front : (s : P.Session) (rs more : List (List ℕ)) → pairs (rs ++ more) (replies s rs) ≡ exchanges s rs
+unfolding pairs replies exchanges
+pairs-front s [] [] = refl
+pairs-front s [] (q ∷ qs) = refl
+pairs-front s (r ∷ rs) more = ap (λ (xs : List Exchange). record { said = r; answered = stepOf s r 512 .bytes } ∷ xs) (pairs-front (stepOf s r 512 .next) rs more)
+
+-- calls with room enough, all of them answered
+abbrev roomy : List (List ℕ) → List Call
+roomy rs = map (λ (r : List ℕ). record { said = r; room = 512 }) rs
+
+all-answered : (rs : List (List ℕ)) → answeredOf (roomy rs) ≡ rs
+unfolding answeredOf
+all-answered [] = refl
+all-answered (r ∷ rs) = ap (λ (l : List (List ℕ)). r ∷ l) (all-answered rs)
+
+stated : (rs : List (List ℕ)) → Bytes rs → Statement (roomy rs) rs
+stated rs b = let e = all-answered rs in subst (Statement (roomy rs)) e (demand (roomy rs) (subst Bytes (sym e) b))
+
+-- ---- the program: its turns from memory that `fresh` made, with nothing waiting
+
+module _ (a : Stand) (start : sessionIn (a .memory) ≡ fresh) (none : waiting a ≡ []) (ts : List Turn) (z : Stand) (h : Turns a ts z) where
+  abbrev R : List ℕ
+  R = broughtIn a ts z h
+
+  abbrev W : List ℕ
+  W = madeIn a ts z h
+
+  abbrev t : Took a z (waiting a ++ R) W
+  t = took a ts z h
+
+  abbrev rs : List (List ℕ)
+  rs = t .said
+
+  -- all that was read is the records taken and what waits
+  taken : R ≡ joined rs ++ waiting z
+  taken = ap (λ (l : List ℕ). l ++ R) (sym none) ∙ t .taken
+
+  cut-records : cut R ≡ rs ++ cut (waiting z)
+  cut-records = ap cut taken ∙ ap (λ (p : Parts). p .whole) (front-cut rs (waiting z) (t .whole))
+
+  all-taken : sizeOf (waiting z) ≡ 0 → cut R ≡ rs
+  all-taken n = cut-records ∙ ap (λ (p : Parts). rs ++ p .whole) (parts-none (length (waiting z)) (waiting z) n) ∙ append-nil rs
+
+  made : W ≡ joined (replies fresh rs)
+  made = t .replied ∙ ap (λ (s : P.Session). joined (replies s rs)) start
+
+  parts-made : _≡_ {A = Parts} (record { whole = cut W; rest = restOf W }) (record { whole = replies fresh rs; rest = [] })
+  unfolding sessionAfter
+  parts-made = one-cut (replies fresh rs) [] (append-nil (joined (replies fresh rs)) ∙ sym made) (replies-whole [] rs) refl
+
+  cut-made : cut W ≡ replies fresh rs
+  cut-made = ap (λ (p : Parts). p .whole) parts-made
+
+  heard : pairs (cut R) (cut W) ≡ exchanges fresh rs
+  heard = ap₂ pairs cut-records cut-made ∙ pairs-front fresh rs (cut (waiting z))
+
+  -- WHERE NO WHOLE RECORD WAITS, THE BLOCKS ARE THE PAPER'S REPLIES TO THE WHOLE RECORDS THAT WERE READ
+  pub replay-replies : sizeOf (waiting z) ≡ 0 → W ≡ joined (replies fresh (cut R))
+  replay-replies n = made ∙ ap (λ (l : List (List ℕ)). joined (replies fresh l)) (sym (all-taken n))
+
+  -- what is read are bytes: `brought-bytes` has it of the lent buffers
+  module _ (bytes : allB (λ (b : ℕ). ltb b 256) R ≡ true) where
+    records-bytes : Bytes rs
+    records-bytes = let f : ℕ → Bool = λ (x : ℕ). ltb x 256 in all-joined f rs (all-parts f (joined rs) (waiting z) (ap (allB f) (sym taken) ∙ bytes) .0)
+
+    -- DEMAND 3 OF WHAT WAS READ AND WHAT WAS MADE
+    pub replay-kept : KeptRun R W z
+    replay-kept =
+        let d = stated rs records-bytes in
+        record {
+          kept = subst Kept (sym heard) (d .kept);
+          true-to =
+              ap (told blank) heard ∙ d .true-to
+              ∙ ap ledgerOf (any-room fresh (roomy rs) ∙ ap (sessionAfter fresh) (all-answered rs) ∙ sym (t .later ∙ ap (λ (s : P.Session). sessionAfter s rs) start));
+          done = ap (λ (p : Parts). p .rest) parts-made;
+          even = λ n. ap length (all-taken n) ∙ as-many fresh rs ∙ ap length (sym cut-made);
+        }
+
+    -- and a ledger over them finds nothing broken
+    pub replay-unbroken : sizeOf (waiting z) ≡ 0 → watched 1 blank (cut R) (cut W) .part ≡ 0
+    replay-unbroken n = ap₂ (λ (x y : List (List ℕ)). watched 1 blank x y .part) (all-taken n) cut-made ∙ watched-fresh rs records-bytes

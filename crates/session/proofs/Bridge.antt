@@ -1,20 +1,23 @@
 -- Read this first. What is proved of the code: any two results that the contract of `step` permits are equal in the answer, in the buffer and in the session that
 -- the memory is, and, from memory in normal form, in every word; a run of calls views as the paper's run; so demand 3, what a refusal leaves and writes, and the invariants of all sessions hold of the code.
-use Prim.Native.Nat.{ℕ, _≤_, _<_}
+use Prim.Native.Nat.{ℕ, suc, _≤_, _<_}
 use mathlib.Core.Path.{_≡_, refl, sym, ap, _∙_, subst}
 use mathlib.Core.List.{List, [], _∷_, _++_}
+use mathlib.Core.Bool.{true}
 use native.Mathlib.Omega.{arith}
-use lib.ListN.{length, take, drop}
+use lib.ListN.{length, getD, take, drop}
 use lib.Seq.{take-append-seam}
 use lib.Dec.{ltb}
-use borrow.Author.Tests.{ltb-true, ltb-false}
+use borrow.Author.Tests.{ltb-true, ltb-false, lt-ltb}
 use Rattle.wire.specs.Bytes.{over}
+use Rattle.paper.specs.Words.{allB}
 use Rattle.paper.specs.Numbers.{bytes16, replyLimit}
 use Rattle.paper.specs.State.{fresh, normal, allRefs}
 use Rattle.paper.specs.State as P
 use Rattle.paper.specs.Step.{Result, stepOf, sessionAfter, afterCalls, answeredOf}
-use Rattle.paper.specs.Statement.{exchanges, Bytes, Statement}
-use Rattle.paper.proofs.Bools.{split}
+use Rattle.paper.specs.Ledger.{blank, told}
+use Rattle.paper.specs.Statement.{Bytes, Kept, exchanges, ledgerOf}
+use Rattle.paper.proofs.Bools.{split, both, left, right}
 use Rattle.paper.proofs.Rooms.{large-room, nothing-written, any-room}
 use Rattle.paper.proofs.Refusals.{refusalKind, refused-writes}
 use Rattle.paper.proofs.Normal.{Bounded, bounded-after, reached-normal}
@@ -26,7 +29,7 @@ use Rattle.session.specs.declared.Answer.{Answer}
 use Rattle.session.specs.View.{Memory, sessionIn}
 use Rattle.session.specs.Laid.{NormalMemory}
 use Rattle.session.specs.Said.{Permitted}
-use Rattle.session.specs.Sequence.{Called, Run, callsOf, heardIn}
+use Rattle.session.specs.Sequence.{Called, Run, callsOf, saidIn, heardIn, Demanded}
 use Rattle.session.proofs.Memories.{sizeOf, members-few, heads-same, members-same, places-same}
 
 -- ---- any two permitted results are equal: answer, buffer and the session that is left
@@ -111,22 +114,44 @@ pub run-normal : (m : Memory) (xs : List Called) (m′ : Memory) → Run m xs m�
 run-normal m [] m′ e n = subst NormalMemory e n
 run-normal m (x ∷ xs) m′ h n = run-normal (x .left) xs m′ (h .1) (h .0 .normal n)
 
+-- ---- records are bytes
+
+-- A record is lent to `step` as `&[u8]`, and of a slice of u8 the kit knows that each element is below 256 (`shared-slice-known`): so it is a list of bytes
+pub lent-bytes : (r : List ℕ) → ((k : ℕ) → getD r k 0 < 256) → allB (λ (b : ℕ). ltb b 256) r ≡ true
+unfolding allB
+lent-bytes [] h = refl
+lent-bytes (b ∷ r) h = both (lt-ltb b 256 (h 0)) (lent-bytes r (λ k. h (suc k)))
+
+-- where all records of the calls are bytes, those that were answered are
+answered-bytes : (xs : List Called) → Bytes (saidIn xs) → Bytes (answeredOf (callsOf xs))
+unfolding answeredOf allB
+answered-bytes [] b = refl
+answered-bytes (x ∷ xs) b =
+    let f = allB (λ (n : ℕ). ltb n 256) in
+    let rest = answered-bytes xs (right (f (x .said)) (allB f (saidIn xs)) b) in
+    split (ltb (length (x .before)) replyLimit) (λ e. rw e rest) (λ e. rw e (both (left (f (x .said)) (allB f (saidIn xs)) b) rest))
+
 -- ---- from memory that `fresh` made: the run of the code
 
 module _ (m : Memory) (start : sessionIn m ≡ fresh) (xs : List Called) (m′ : Memory) (run : Run m xs m′) where
   abbrev rs : List (List ℕ)
   rs = answeredOf (callsOf xs)
 
-  reached : sessionIn m′ ≡ sessionAfter fresh rs
-  reached = run-views m xs m′ run ∙ ap (λ (v : P.Session). afterCalls v (callsOf xs)) start ∙ any-room fresh (callsOf xs)
+  comes-to : sessionIn m′ ≡ afterCalls fresh (callsOf xs)
+  comes-to = run-views m xs m′ run ∙ ap (λ (v : P.Session). afterCalls v (callsOf xs)) start
 
-  -- what is heard of the code is the paper's exchange, so demand 3 is told of the code's own bytes
+  reached : sessionIn m′ ≡ sessionAfter fresh rs
+  reached = comes-to ∙ any-room fresh (callsOf xs)
+
+  -- what is heard of the code is the paper's exchange
   pub code-heard : heardIn xs ≡ exchanges fresh rs
   code-heard = heard-is m xs m′ run ∙ ap (λ (v : P.Session). exchanges v rs) start
 
-  -- DEMAND 3 of the code
-  pub code-demand : Bytes rs → Statement (callsOf xs) rs
-  code-demand b = demand (callsOf xs) b
+  -- DEMAND 3 OF THE CODE'S OWN BYTES: what is heard keeps it, and the ledger told from it is that of the session that the memory then is
+  pub code-demand : Bytes (saidIn xs) → Demanded xs m′
+  code-demand b =
+      let d = demand (callsOf xs) (answered-bytes xs b) in
+      record { kept = subst Kept (sym code-heard) (d .kept); true-to = ap (told blank) code-heard ∙ d .true-to ∙ ap ledgerOf (sym comes-to) }
 
   -- stored ≤ capacity ≤ 16, k ≤ 16, counts; its own normal form; waiting ≤ reorder; the previous MSB a multiple of M
   pub code-bounded : Bounded (sessionIn m′)

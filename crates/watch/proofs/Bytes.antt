@@ -106,6 +106,11 @@ unfolding readWords none
 none-words f zero bs = refl
 none-words f (suc n) bs = sym (not-none n)
 
+none-shown : (n : ℕ) (bs : List ℕ) → none (readShown n bs) ≡ eqb n 0
+unfolding readShown none
+none-shown zero bs = refl
+none-shown (suc n) bs = sym (not-none n)
+
 none-events : (p : Part) (n : ℕ) (bs : List ℕ) → none (eventsOf p n bs) ≡ eqb n 0
 unfolding eventsOf readShown readWords none
 none-events Handed zero bs = refl
@@ -148,6 +153,10 @@ module _ (at : ℕ) (r : List ℕ) where
 
   pub none-thrown : none (readTail (drop at r) .thrown) ≡ eqb (u8 r (thrownAt r at)) 0
   none-thrown = rw thrown-is (none-words aSerial (u8 r (thrownAt r at)) (drop (thrownAt r at + 1) r))
+
+  pub none-handed : none (readTail (drop at r) .handed) ≡ eqb (u8 r at) 0
+  unfolding readTail
+  none-handed = none-shown (u8 (drop at r) 0) (drop 1 (drop at r)) ∙ ap (λ (n : ℕ). eqb n 0) (u8-drop at r)
 
   pub thrown-count : length (readTail (drop at r) .thrown) ≡ u8 r (thrownAt r at)
   thrown-count = rw thrown-is (length-map (readWords (u8 r (thrownAt r at)) (drop (thrownAt r at + 1) r)) aSerial ∙ length-words (u8 r (thrownAt r at)) (drop (thrownAt r at + 1) r))

@@ -5,16 +5,17 @@ use mathlib.Core.Bool.{Bool, true, false, cond, not, _&&_, _||_}
 use mathlib.Core.List.{List, [], _∷_, _++_, map}
 use native.Mathlib.Omega.{arith}
 use lib.ListN.{length, drop, length-map, length-append}
+use lib.Seq.{getD-drop}
 use lib.Dec.{eqb, ltb}
 use borrow.Author.Tests.{eq-eqb, ne-eqb, lt-ltb, le-ltb}
 use Rattle.derivation.proofs.Pad.{is-view, is-good}
-use Rattle.paper.specs.Words.{first, anyB, keep}
-use Rattle.paper.specs.Numbers.{u8, u16, u32}
+use Rattle.paper.specs.Words.{_gives_, first, anyB, keep}
+use Rattle.paper.specs.Numbers.{u8, u16, u32, bit}
 use Rattle.paper.specs.Sets.{inOrder}
 use Rattle.paper.specs.Output.{Tail}
 use Rattle.paper.specs.Replies.{Reply, Begun}
 use Rattle.paper.specs.WholeReply.{thrownAt, membersOf}
-use Rattle.paper.specs.Ledger.{Ledger, Event, Hand, Throw, Free, lies, off, free, upon, uponAll, events, none, names, readBegun, readTail, readSerials, setWords, lineOf, tell}
+use Rattle.paper.specs.Ledger.{Ledger, Event, Hand, Throw, Free, lies, off, free, upon, uponAll, events, none, names, clearing, readBegun, readTail, readSerials, setWords, lineOf, tell}
 use Rattle.paper.specs.Watch.{tailPart, startedPart, replyPart}
 use Rattle.paper.specs.declared.Serial.{Serial}
 use Rattle.paper.specs.declared.Line.{Line}
@@ -26,9 +27,9 @@ use Rattle.watch.specs.declared.events.Told.{Told}
 use Rattle.watch.specs.Book.{Holds, view, Good, currentIn, HoldsBook}
 use Rattle.watch.specs.Events.{Tells}
 use Rattle.watch.specs.Places.{startedIn, doneIn}
-use Rattle.watch.specs.Judging.{Tidy, pageOf, Gives, Judged, Lists, Ends, Abandons, Lands}
+use Rattle.watch.specs.Judging.{Tidy, pageOf, leftPart, Gives, Judged, Lists, Ends, Abandons, Lands}
 use Rattle.watch.proofs.Walks.{keep-short}
-use Rattle.watch.proofs.Bytes.{none-thrown}
+use Rattle.watch.proofs.Bytes.{none-thrown, none-handed}
 use Rattle.watch.proofs.Replies.{tail-there, members-read}
 
 -- ---- an answer with a part, and one with none
@@ -62,6 +63,26 @@ none-length (e ∷ H) = let n : length (e ∷ H) ≡ 0 → ⊥ = omega arith in 
 
 -- ---- begin
 
+-- the test of a clear, read where the code reads it
+pub clear-is : (H : List Line) (a : List ℕ) (at n : ℕ) → n ≡ length H
+    → (eqb (u8 a (thrownAt a at)) 0 || (bit 3 (u8 a 10) && (eqb (u8 a at) 0 && eqb n 0))) ≡ clearing (readBegun (drop 6 a)) (readTail (drop at a)) H
+unfolding readBegun
+clear-is H a at n e = rw (none-thrown at a, none-handed at a, none-length H, getD-drop 6 a 4 0, e)
+
+module _ (H : List Line) (a : List ℕ) (n : ℕ) where
+  pub left-19 : clearing (readBegun (drop 6 a)) (readTail (drop (20 + 4 * n) a)) H ≡ false → leftPart H a n ≡ 19
+  unfolding first
+  left-19 e = rw e
+
+  module _ (e : clearing (readBegun (drop 6 a)) (readTail (drop (20 + 4 * n) a)) H ≡ true) where
+    pub left-12 : names (readSerials n (drop 20 a)) H ≡ false → leftPart H a n ≡ 12
+    unfolding first
+    left-12 f = rw (e, f)
+
+    pub left-0 : names (readSerials n (drop 20 a)) H ≡ true → leftPart H a n ≡ 0
+    unfolding first
+    left-0 f = rw (e, f)
+
 module _ (b : Book) (r a : List ℕ) where
   pub begins-3 : none (currentIn (b .current)) ≡ false → Judged b r (startedIn a) (record { part = 3; book = b })
   unfolding replyPart first
@@ -94,19 +115,32 @@ module _ (b : Book) (r a : List ℕ) where
           left-lines : Holds (t .lines) (uponAll (events (readTail (drop (4 * setWords (drop 6 a)) (drop 14 (drop 6 a))))) (view (b .held)))
           left-lines = there .lines zero-part
 
-          known : {v : Bool} → names (readSerials n (drop 20 a)) (view (t .lines)) ≡ v
-              → names (inOrder (readBegun (drop 6 a) .sets)) (uponAll (events (readTail (drop (4 * setWords (drop 6 a)) (drop 14 (drop 6 a))))) (view (b .held))) ≡ v
-          known q = rw (members-read a, ← m, ← is-view left-lines) q
+          -- the last two parts, read where the code reads them
+          left-is : first (not (clearing (readBegun (drop 6 a)) (readTail (drop (4 * setWords (drop 6 a)) (drop 14 (drop 6 a)))) (uponAll (events (readTail (drop (4 * setWords (drop 6 a)) (drop 14 (drop 6 a))))) (view (b .held)))) gives 19
+              ∷ not (names (inOrder (readBegun (drop 6 a) .sets)) (uponAll (events (readTail (drop (4 * setWords (drop 6 a)) (drop 14 (drop 6 a))))) (view (b .held)))) gives 12
+              ∷ []) ≡ leftPart (view (t .lines)) a n
+          left-is =
+              let B = readBegun (drop 6 a) in
+              let H = view (t .lines) in
+              let x : drop (4 * setWords (drop 6 a)) (drop 14 (drop 6 a)) ≡ drop (20 + 4 * n) a = tail-there a ∙ ap (λ (k : ℕ). drop (20 + 4 * k) a) (sym m) in
+              let y : inOrder (B .sets) ≡ readSerials n (drop 20 a) = members-read a ∙ ap (λ (k : ℕ). readSerials k (drop 20 a)) (sym m) in
+              ap (λ (K : List Line). first (not (clearing B (readTail (drop (4 * setWords (drop 6 a)) (drop 14 (drop 6 a)))) K) gives 19 ∷ not (names (inOrder (B .sets)) K) gives 12 ∷ [])) (sym (is-view left-lines))
+              ∙ ap (λ (w : List ℕ). first (not (clearing B (readTail w) H) gives 19 ∷ not (names (inOrder (B .sets)) H) gives 12 ∷ [])) x
+              ∙ ap (λ (ns : List Serial). first (not (clearing B (readTail (drop (20 + 4 * n) a)) H) gives 19 ∷ not (names ns H) gives 12 ∷ [])) y
 
-          pub begins-12 : names (readSerials n (drop 20 a)) (view (t .lines)) ≡ false → Judged b r (startedIn a) (record { part = 12; book = b })
-          unfolding replyPart first
-          begins-12 q = gives-no 12 (omega arith) (rw (c, eq-eqb (readBegun (drop 6 a) .serial .0) (b .begun) (rw w at s), rw w at h, zero-part, known q))
+          started-left : startedPart (pageOf b) r (readBegun (drop 6 a)) (readTail (drop (4 * setWords (drop 6 a)) (drop 14 (drop 6 a)))) ≡ leftPart (view (t .lines)) a n
+          unfolding first
+          started-left = rw (c, eq-eqb (readBegun (drop 6 a) .serial .0) (b .begun) (rw w at s), rw w at h, zero-part) left-is
 
-          pub begins-0 : Tidy b → names (readSerials n (drop 20 a)) (view (t .lines)) ≡ true
+          pub begins-left : (p : ℕ) → p ≡ leftPart (view (t .lines)) a n → (p ≡ 0 → ⊥) → Judged b r (startedIn a) (record { part = p; book = b })
+          unfolding replyPart
+          begins-left p q f = gives-no p f (started-left ∙ sym q)
+
+          pub begins-0 : Tidy b → leftPart (view (t .lines)) a n ≡ 0
               → Judged b r (startedIn a) (record { part = 0; book = record { held = t .lines; current = Is e; begun = b .begun + 1; tally = b .tally } })
-          unfolding replyPart first tell
+          unfolding replyPart tell
           begins-0 tidy q =
-              gives-yes (rw (c, eq-eqb (readBegun (drop 6 a) .serial .0) (b .begun) (rw w at s), rw w at h, zero-part, known q))
+              gives-yes (started-left ∙ q)
               (record {
                 held = left-lines;
                 few = omega (arith, left-lines .long, all-short (events (readTail (drop (4 * setWords (drop 6 a)) (drop 14 (drop 6 a))))) (view (b .held)), tidy .few, tidy .good .long);

@@ -1,14 +1,15 @@
 -- A reply against a book in normal form: the part it breaks, or 0 and the book after it, with the tally as it was.
-use Prim.Native.Nat.{ℕ, _≤_}
+use Prim.Native.Nat.{ℕ, _+_, _*_, _≤_}
 use mathlib.Core.Path.{_≡_}
-use mathlib.Core.List.{List}
-use mathlib.Core.Bool.{Bool, true, _||_}
+use mathlib.Core.List.{List, [], _∷_}
+use mathlib.Core.Bool.{Bool, true, not, _||_}
+use lib.ListN.{drop}
 use lib.Dec.{eqb}
-use Rattle.paper.specs.Words.{anyB}
+use Rattle.paper.specs.Words.{_gives_, first, anyB}
 use Rattle.paper.specs.Numbers.{missing, sameSerial}
 use Rattle.paper.specs.Output.{Tail}
 use Rattle.paper.specs.Replies.{Reply}
-use Rattle.paper.specs.Ledger.{Ledger, tell, unchanged, abandoned, landed}
+use Rattle.paper.specs.Ledger.{Ledger, readBegun, readTail, readSerials, clearing, names, tell, unchanged, abandoned, landed}
 use Rattle.paper.specs.Watch.{replyPart, listedPart, endPart, abandonPart, landedPart}
 use Rattle.paper.specs.declared.Serial.{Serial}
 use Rattle.paper.specs.declared.Line.{Line}
@@ -29,6 +30,13 @@ pageOf b = record { held = view (b .held); current = currentIn (b .current); beg
 -- a member is missing or one of these lines
 abbrev pub calls : List Line → Serial → Bool
 calls H n = sameSerial n missing || anyB (named n) H
+
+-- the last two parts of a begin whose reply has n members, of the lines that its tail leaves
+abbrev pub leftPart : List Line → List ℕ → ℕ → ℕ
+leftPart H a n =
+    first (not (clearing (readBegun (drop 6 a)) (readTail (drop (20 + 4 * n) a)) H) gives 19
+    ∷ not (names (readSerials n (drop 20 a)) H) gives 12
+    ∷ [])
 
 -- the part, and the book after it where the part is 0
 pub record Gives (b : Book) (p : ℕ) (L : Ledger) (h : Heard) : Type 0 where

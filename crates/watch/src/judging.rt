@@ -21,9 +21,9 @@ ghost use mathlib.Core.Bool.{not};
 ghost use Prim.Native.Nat.{_+_, _*_, _≤_, _<_};
 ghost use lib.ListN.{length, drop};
 ghost use Rattle.paper.specs.Numbers.{u8, u16, u32};
-ghost use Rattle.paper.specs.Ledger.{names, readSerials, readTail, readBegun, readReply, lineOf, none, events};
+ghost use Rattle.paper.specs.Ledger.{names, readSerials, readTail, readBegun, readReply, lineOf, none, events, clearing};
 ghost use Rattle.watch.specs.Book.{Holds, view, Good, currentIn};
-ghost use Rattle.watch.specs.Judging.{Tidy, Judged, Lists, Ends, Abandons, Lands, calls};
+ghost use Rattle.watch.specs.Judging.{Tidy, Judged, Lists, Ends, Abandons, Lands, calls, leftPart};
 ghost use Rattle.watch.specs.Places.{startedIn, doneIn};
 
 // Whether a member is missing or one of these lines.
@@ -74,7 +74,30 @@ fn line_begun(msg: &[u8], reply: &[u8]) -> Line
     }
 }
 
-// 3: begun while a picture is current; 4: not the next serial; 5: on a surface that is held; the tail; 12: a set names a picture that is not held.
+// Whether a begin whose tail stands at a place throws nothing away, or clears: its reply says "no output of prior pictures", nothing is handed out, and
+// no line is left.
+fn is_clear(left: Lines, reply: &[u8], at: usize) -> bool
+    requires { ⌜ Good left × (at < 20000) ⌝ }
+    ensures { λ r. ⌜ r ≡ clearing (readBegun (drop 6 (now (reply .entry)))) (readTail (drop at (now (reply .entry)))) (view left) ⌝ }
+{
+    let second = thrown_at(reply, at);
+    let said = flag_bytes::bit3(wire::byte(reply, 10));
+    let n = left.len;
+    (wire::byte(reply, second) == 0) | (said & ((wire::byte(reply, at) == 0) & (n == 0)))
+}
+
+// Of the lines that a begin with n members leaves: 19 where it throws away and does not clear; 12 where a set names none of them; else 0.
+fn left_part(l: Lines, reply: &[u8], n: usize) -> u8
+    requires { ⌜ Good l × (n ≤ 1275) ⌝ }
+    ensures { λ r. ⌜ r ≡ leftPart (view l) (now (reply .entry)) n ⌝ }
+{
+    if !is_clear(l, reply, 20 + 4 * n) {
+        return 19;
+    }
+    if names_known(l, reply, 20, n) { 0 } else { 12 }
+}
+
+// 3: begun while a picture is current; 4: not the next serial; 5: on a surface that is held; the tail; then what it leaves.
 fn started(b: Book, msg: &[u8], reply: &[u8]) -> Heard
     requires { ⌜ Tidy b ⌝ }
     ensures { λ r. ⌜ Judged b (now (msg .entry)) (startedIn (now (reply .entry))) r ⌝ }
@@ -102,8 +125,9 @@ fn started(b: Book, msg: &[u8], reply: &[u8]) -> Heard
         };
     }
     let held = t.lines;
-    if !names_known(held, reply, 20, n) {
-        return Heard { part: 12, book: b };
+    let part = left_part(held, reply, n);
+    if part != 0 {
+        return Heard { part, book: b };
     }
     let tally = b.tally;
     let book = Book {

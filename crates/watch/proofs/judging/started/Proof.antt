@@ -2,8 +2,9 @@
 use denote.Ref.{now}
 use native.Mathlib.Omega.{arith}
 use mathlib.Core.Path.{_≡_, _∙_, sym, refl}
+use Rattle.derivation.proofs.Pad.{is-good}
 use Rattle.watch.proofs.Parts.{flip, flop}
-use Rattle.watch.proofs.Ways.{begins-3, begins-4, begins-5, begins-tail, begins-12, begins-0}
+use Rattle.watch.proofs.Ways.{begins-3, begins-4, begins-5, begins-tail, begins-left, begins-0}
 use borrow.Author.Needs.{needs}
 use Rattle.watch.proofs.judging.started.Statement.{statement}
 use Rattle.watch.proofs.judging.started.Tie as tie
@@ -57,8 +58,11 @@ returns-4 c =
     let z : c .before .before .tail .result .part ≡ 0 → ⊥ = omega (arith, c .if4 .taken) in
     begins-tail (a .b) (now (a .msg)) (now (a .reply)) (sym (c .before .before .before .before .before .before .before .before .before .before .before .before .before .is-idle .ensures) ∙ flop _ (c .before .before .before .before .before .before .before .before .before .before .before .before .if1 .left)) e (c .before .before .before .before .before .before .before .before .before .before .before .line-begun .ensures) s (sym (c .before .before .before .before .before .has-any .ensures) ∙ c .before .before .before .before .if3 .left) (c .before .before .before .members .result) (c .before .before .before .members .ensures .0) (c .before .before .tail .result) (c .before .before .tail .ensures) z
 
-names-known-requires : tie.Need-names-known-requires
-names-known-requires c κs = search needs
+left-part-requires : tie.Need-left-part-requires
+left-part-requires c κs =
+    let t = c .before .before .before .tail in
+    let z : t .result .part ≡ 0 = omega (arith, c .before .if4 .left) in
+    (is-good (t .ensures .lines (sym (t .ensures .part) ∙ z)), c .before .before .before .before .members .ensures .1)
 
 returns-5 : tie.Need-returns-5
 returns-5 c =
@@ -66,10 +70,10 @@ returns-5 c =
     let e = c .before .before .before .before .before .before .before .before .before .before .before .before .before .before .line-begun .result in
     let s : e .serial .0 ≡ a .b .begun = omega (arith, c .before .before .before .before .before .before .before .before .before .before .if2 .left) in
     let z : c .before .before .before .before .before .tail .result .part ≡ 0 = omega (arith, c .before .before .before .if4 .left) in
-    begins-12 (a .b) (now (a .msg)) (now (a .reply)) (sym (c .before .before .before .before .before .before .before .before .before .before .before .before .before .before .before .before .is-idle .ensures) ∙ flop _ (c .before .before .before .before .before .before .before .before .before .before .before .before .before .before .before .if1 .left)) e (c .before .before .before .before .before .before .before .before .before .before .before .before .before .before .line-begun .ensures) s (sym (c .before .before .before .before .before .before .before .before .has-any .ensures) ∙ c .before .before .before .before .before .before .before .if3 .left) (c .before .before .before .before .before .before .members .result) (c .before .before .before .before .before .before .members .ensures .0) (c .before .before .before .before .before .tail .result) (c .before .before .before .before .before .tail .ensures) z (sym (c .before .names-known .ensures) ∙ flip _ (c .if5 .taken))
+    begins-left (a .b) (now (a .msg)) (now (a .reply)) (sym (c .before .before .before .before .before .before .before .before .before .before .before .before .before .before .before .before .is-idle .ensures) ∙ flop _ (c .before .before .before .before .before .before .before .before .before .before .before .before .before .before .before .if1 .left)) e (c .before .before .before .before .before .before .before .before .before .before .before .before .before .before .line-begun .ensures) s (sym (c .before .before .before .before .before .before .before .before .has-any .ensures) ∙ c .before .before .before .before .before .before .before .if3 .left) (c .before .before .before .before .before .before .members .result) (c .before .before .before .before .before .before .members .ensures .0) (c .before .before .before .before .before .tail .result) (c .before .before .before .before .before .tail .ensures) z (c .before .left-part .result) (c .before .left-part .ensures) (let k : c .before .left-part .result ≡ 0 → ⊥ = omega (arith, c .if5 .taken) in k)
 
-add-t16 : tie.Need-add-t16
-add-t16 c = search needs
+add-t17 : tie.Need-add-t17
+add-t17 c = search needs
 
 returns-6 : tie.Need-returns-6
 returns-6 c =
@@ -77,7 +81,7 @@ returns-6 c =
     let e = c .before .before .before .before .before .before .before .before .before .before .before .before .before .before .before .before .line-begun .result in
     let s : e .serial .0 ≡ a .b .begun = omega (arith, c .before .before .before .before .before .before .before .before .before .before .before .before .if2 .left) in
     let z : c .before .before .before .before .before .before .before .tail .result .part ≡ 0 = omega (arith, c .before .before .before .before .before .if4 .left) in
-    begins-0 (a .b) (now (a .msg)) (now (a .reply)) (sym (c .before .before .before .before .before .before .before .before .before .before .before .before .before .before .before .before .before .before .is-idle .ensures) ∙ flop _ (c .before .before .before .before .before .before .before .before .before .before .before .before .before .before .before .before .before .if1 .left)) e (c .before .before .before .before .before .before .before .before .before .before .before .before .before .before .before .before .line-begun .ensures) s (sym (c .before .before .before .before .before .before .before .before .before .before .has-any .ensures) ∙ c .before .before .before .before .before .before .before .before .before .if3 .left) (c .before .before .before .before .before .before .before .before .members .result) (c .before .before .before .before .before .before .before .before .members .ensures .0) (c .before .before .before .before .before .before .before .tail .result) (c .before .before .before .before .before .before .before .tail .ensures) z (c .before .before .before .before .before .before .before .before .before .before .before .before .before .before .before .before .before .before .before .before .before .before .pre) (sym (c .before .before .before .names-known .ensures) ∙ flop _ (c .before .before .if5 .left))
+    begins-0 (a .b) (now (a .msg)) (now (a .reply)) (sym (c .before .before .before .before .before .before .before .before .before .before .before .before .before .before .before .before .before .before .is-idle .ensures) ∙ flop _ (c .before .before .before .before .before .before .before .before .before .before .before .before .before .before .before .before .before .if1 .left)) e (c .before .before .before .before .before .before .before .before .before .before .before .before .before .before .before .before .line-begun .ensures) s (sym (c .before .before .before .before .before .before .before .before .before .before .has-any .ensures) ∙ c .before .before .before .before .before .before .before .before .before .if3 .left) (c .before .before .before .before .before .before .before .before .members .result) (c .before .before .before .before .before .before .before .before .members .ensures .0) (c .before .before .before .before .before .before .before .tail .result) (c .before .before .before .before .before .before .before .tail .ensures) z (c .before .before .before .before .before .before .before .before .before .before .before .before .before .before .before .before .before .before .before .before .before .before .pre) (let k : c .before .before .before .left-part .result ≡ 0 = omega (arith, c .before .before .if5 .left) in sym (c .before .before .before .left-part .ensures) ∙ k)
 
 pub started-spec : {M : Type 1} → statement M
 started-spec =
@@ -95,7 +99,7 @@ started-spec =
     add-tail
     tail-requires
     returns-4
-    names-known-requires
+    left-part-requires
     returns-5
-    add-t16
+    add-t17
     returns-6)

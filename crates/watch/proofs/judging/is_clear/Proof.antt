@@ -1,0 +1,40 @@
+-- The three counts and the bit that the test asks for, each read at its place.
+use denote.Ref.{now}
+use mathlib.Core.Path.{_≡_, _∙_, sym, refl}
+use Rattle.watch.specs.Book.{view}
+use Rattle.watch.proofs.Ways.{clear-is}
+use borrow.Author.Needs.{needs}
+use Rattle.watch.proofs.judging.is_clear.Statement.{statement}
+use Rattle.watch.proofs.judging.is_clear.Tie as tie
+
+thrown-at-requires : tie.Need-thrown-at-requires
+thrown-at-requires c κs = search needs
+
+byte-requires : tie.Need-byte-requires
+byte-requires c κs = search needs
+
+bit3-requires : tie.Need-bit3-requires
+bit3-requires c κs = search needs
+
+byte-requires-2 : tie.Need-byte-requires-2
+byte-requires-2 c κs = search needs
+
+byte-requires-3 : tie.Need-byte-requires-3
+byte-requires-3 c κs = search needs
+
+returns : tie.Need-returns
+returns c =
+    let s = c .before .before .before .before .before .before in
+    rw (c .before .byte2 .ensures, c .before .before .bit3 .ensures, c .before .before .before .byte .ensures, c .byte3 .ensures, c .before .before .before .before .thrown-at .ensures .0)
+    (clear-is (view (s .args .left)) (now (s .args .reply)) (s .args .at) (s .args .left .len) (s .pre .0 .long))
+
+pub is-clear-spec : {M : Type 1} → statement M
+is-clear-spec =
+    tie.close
+    (tie.spec
+    thrown-at-requires
+    byte-requires
+    bit3-requires
+    byte-requires-2
+    byte-requires-3
+    returns)
