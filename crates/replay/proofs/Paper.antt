@@ -17,7 +17,6 @@ use Rattle.paper.specs.Ledger.{Exchange, blank, told}
 use Rattle.paper.specs.Statement.{Bytes, Kept, Statement, exchanges, ledgerOf}
 use Rattle.paper.specs.Watch.{watched, pairs}
 use Rattle.paper.proofs.Bools.{both}
-use Rattle.paper.proofs.Normal.{bounded-after}
 use Rattle.paper.proofs.Rooms.{any-room}
 use Rattle.paper.proofs.Refusals.{head-says}
 use Rattle.paper.proofs.Demand.{demand}
@@ -43,9 +42,8 @@ unfolding replies allB sessionAfter
 replies-whole rs [] = refl
 replies-whole rs (q ∷ qs) =
     let v = sessionAfter fresh rs in
-    let b = bounded-after rs in
     let a = stepOf v q 512 .bytes in
-    let h = head-says v q (omega (arith, b .most, b .room)) in
+    let h = head-says rs q 512 (omega arith) in
     both (eq-eqb (length a) (4 + lengthOf a) (omega (arith, h))) (subst (λ (s : P.Session). allB isWhole (replies s qs) ≡ true) (after-append fresh rs (q ∷ [])) (replies-whole (rs ++ (q ∷ [])) qs))
 
 -- with its records, and whatever records come behind these, they are the session's exchanges
