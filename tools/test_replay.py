@@ -5,7 +5,8 @@
 
 It runs the command on the examples and on the recordings of vectors/ (each from a fresh session) and compares with their stored replies; on
 records cut into pieces at any byte; on damaged bytes, which model.py answers too; on a pipe that pauses after each record, where the reply must
-come before the next record is sent; and on an output that takes no byte. Status 1 at the first difference.
+come before the next record is sent; on an output that takes no byte; and on an input or output that fails, is closed or would block (failing.py).
+Status 1 at the first difference.
 """
 import pathlib
 import random
@@ -14,6 +15,7 @@ import subprocess
 import sys
 from concurrent.futures import ThreadPoolExecutor
 
+import failing
 import model
 import records
 import recordings
@@ -121,11 +123,18 @@ def shut(command):
     return "a full output ends the run"
 
 
+def names_it(command):
+    """What can't be read or written is named on standard error."""
+    for line in failing.differences(command, "replay", struct.pack("<HH", 0, 5) * 1000):
+        raise Failed(line)
+    return f"{len(failing.WAYS)} ways to fail, each with its message"
+
+
 def main(command):
     if not command:
         print(__doc__, file=sys.stderr)
         return 2
-    for test in (stored, damaged, piecewise, pausing, shut):
+    for test in (stored, damaged, piecewise, pausing, shut, names_it):
         try:
             print(f"replay, {test.__name__}: {test(command)}")
         except Failed as failed:

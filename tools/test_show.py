@@ -5,7 +5,8 @@
 
 COMMAND gets replies on standard input and must write a line for each. The replies are those of vectors/*.txt, random ones of every kind with
 counts from 0 to 255, damaged ones and random bytes, the same each time. The expected line is the number, then records.py's text, then a
-refusal's word. At the end it is tried that a line comes before the next reply is sent, and that a closed output ends the run.
+refusal's word. At the end it is tried that a line comes before the next reply is sent, that a closed output ends the run, and that an input or
+output that fails, is closed or would block is named on standard error (failing.py).
 Status 1 at the first difference, which is printed.
 """
 import random
@@ -13,6 +14,7 @@ import struct
 import subprocess
 import sys
 
+import failing
 import records
 import vectors
 
@@ -176,11 +178,21 @@ def stops(command):
     return 1
 
 
+def names_it(command):
+    """What can't be read or written is named on standard error, also where only the last line is written."""
+    for data in (longest_reply(), b"\0"):
+        for line in failing.differences(command, "show", data):
+            print(line)
+            return 1
+    print(f"{len(failing.WAYS)} ways to fail, each with its message")
+    return 0
+
+
 def main(command):
     if not command:
         print(__doc__, file=sys.stderr)
         return 2
-    return compare(command) or at_once(command) or stops(command)
+    return compare(command) or at_once(command) or stops(command) or names_it(command)
 
 
 if __name__ == "__main__":

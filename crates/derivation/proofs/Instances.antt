@@ -2,11 +2,12 @@
 use mathlib.Core.Path.{_≡_, refl, sym, ap, _∙_}
 use mathlib.Core.List.{List}
 use Prim.Native.Nat.{ℕ, _<_, _≤_}
+use native.Mathlib.Omega.{arith}
 use lib.Dec.{leb}
 use Rattle.paper.specs.Words.{anyB}
 use Rattle.derivation.specs.declared.rows.RefList.{RefList}
 use Rattle.derivation.proofs.Pad.{one-array}
-use Rattle.derivation.proofs.Runs.{count-is, table-get}
+use Rattle.derivation.proofs.Runs.{count-is, table-get, placed-is, can-fill}
 use mathlib.Core.Bool.{Bool, true, false}
 use lib.ListN.{length, getD}
 use lib.Seq.{ext-getD}
@@ -16,7 +17,7 @@ use Rattle.paper.specs.declared.Serial.{Serial}
 use Rattle.paper.specs.State as State
 use Rattle.paper.specs.Records.{Slice}
 use Rattle.paper.specs.RefLists.{list0, list1, lastIsOwn, candidates0, candidates1}
-use Rattle.derivation.specs.Lists.{blankSerial, serialAt, serialsIn, listOf, candidatesOf, refsIn, CandidateCount, Ready, HoldsList}
+use Rattle.derivation.specs.Lists.{blankSerial, serialAt, serialsIn, listOf, withLast, canFill, builtOf, candidatesOf, refsIn, CandidateCount, Ready, HoldsList}
 
 module _ (x : State.Refs) (c : Serial) (f : Slice) where
   pub list0-is : f .ask0 .uses ≡ true → list0 x c f ≡ listOf x c (f .own) false (lastIsOwn f (candidates0 x (f .own) c)) (f .ask0 .active) (f .ask0 .modify) (f .ask0 .entries)
@@ -53,6 +54,16 @@ ready second c active modify es k some least most bytes below =
       bytes = bytes;
       below = λ t. rw (← e) (below t);
     }
+
+-- what is built from a list that is ready is the paper's list
+pub built-is : {x : State.Refs} {c : Serial} {own second : Bool} (last : Bool) {active : ℕ} {modify : Bool} {es : List ℕ} → Ready x c own second active modify es
+    → builtOf x c own second last active modify es ≡ listOf x c own second last active modify es
+unfolding builtOf listOf
+built-is {x} {c} {own} {second} last {active} {modify} {es} h =
+    let cs = candidatesOf x own second c in
+    let enough : modify ≡ true → active ≤ length es = λ t. omega (arith, h .bytes t) in
+    let f = can-fill (length cs) active modify (length es) (record { some = h .some; least = h .least; most = h .most; enough = enough }) in
+    rw f (ap (withLast last active c) (placed-is cs c modify es (length cs) active refl (h .some) (h .bytes) (h .below)))
 
 -- a run of sixteen words is told by its first members and the words behind them
 pub one-run : (n : ℕ) (us vs : List ℕ) → length us ≡ 16 → length vs ≡ 16 → serialsIn us n ≡ serialsIn vs n → ((i : ℕ) → n ≤ i → getD us i 0 ≡ getD vs i 0) → us ≡ vs

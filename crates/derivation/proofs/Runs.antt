@@ -1,14 +1,14 @@
 -- The three sets are one run: Before, After and LtCurr together are its front, and the two orders of candidates differ by which of
 -- the first two parts a place falls into.
 use mathlib.Core.Path.{_≡_, refl, sym, ap, ap₂, _∙_, subst}
-use mathlib.Core.Bool.{Bool, true, false, cond, _||_, true≢false}
+use mathlib.Core.Bool.{Bool, true, false, cond, not, _&&_, _||_, true≢false}
 use mathlib.Core.List.{List, [], _∷_, _++_, map, map-append, append-assoc, append-nil}
 use Prim.Native.Nat.{ℕ, zero, suc, _+_, _-_, _%_, _<_, _≤_, min}
 use native.Mathlib.Nat.{le-of-suc-le-suc, not-suc-le-zero, mod-lt}
 use native.Mathlib.Omega.{arith}
 use native.Mathlib.Numerals.{add-one}
 use lib.Dec.{ltb, leb}
-use borrow.Author.Tests.{ltb-true, ltb-false, leb-true, leb-false}
+use borrow.Author.Tests.{ltb-true, ltb-false, leb-true, leb-false, lt-ltb, le-leb}
 use lib.ListN.{length, getD, take, drop, set, replicate, length-append, length-take, length-drop, length-map, take-append-drop, List·getD-append, List·getD-eq-default, List·getD-map}
 use lib.Seq.{take-add, take-at, drop-at, take-suc, take-length, getD-take, getD-at, getD-append-add}
 use Rattle.paper.specs.declared.Serial.{Serial}
@@ -16,13 +16,13 @@ use Rattle.paper.specs.Words.{table, anyB}
 use Rattle.paper.specs.Numbers.{missing, aSerial}
 use Rattle.paper.specs.State as State
 use Rattle.paper.specs.RefLists.{ownOf, candidates0, candidates1, placed}
-use Rattle.paper.proofs.Bools.{split}
+use Rattle.paper.proofs.Bools.{split, both, left, right, or-left, or-right}
 use Rattle.paper.proofs.Fits.{table-length}
 use Rattle.paper.proofs.Places.{at-cons, at-end}
 use Rattle.derivation.specs.declared.rows.Refs.{Refs}
 use Rattle.derivation.specs.declared.rows.RefList.{RefList}
 use Rattle.derivation.specs.Pad.{Padded}
-use Rattle.derivation.specs.Lists.{refsIn, blankSerial, serialAt, serialsIn, HoldsList, candidatesOf, swappedAt, placeIn, askOf, CandidateCount}
+use Rattle.derivation.specs.Lists.{refsIn, blankSerial, serialAt, serialsIn, HoldsList, noList, candidatesOf, swappedAt, placeIn, askOf, withLast, canFill, placeOf, builtOf, CandidateCount}
 use Rattle.derivation.proofs.Pad.{is-push, is-set}
 
 -- ---- how long each set is
@@ -179,10 +179,6 @@ map-entries cs d e (x ∷ es) h = go (leb (length cs) x) refl h (map-entries cs 
     go true q w rest = absurd (true≢false w)
     go false q w rest = ap₂ (λ (y : Serial) (ys : List Serial). y ∷ ys) (any-default cs x d e (leb-false (length cs) x q)) (rest w)
 
--- what stands at place j
-abbrev pub placeOf : List Serial → Serial → Bool → List ℕ → ℕ → ℕ → Serial
-placeOf cs c modify es n j = getD cs (cond modify (getD es j 0) (j % n)) c
-
 pub placed-is : (cs : List Serial) (c : Serial) (modify : Bool) (es : List ℕ) (n active : ℕ) → n ≡ length cs → 0 < n
     → (modify ≡ true → length es ≡ active) → (modify ≡ true → anyB (λ (i : ℕ). leb (length cs) i) es ≡ false)
     → table (placeOf cs c modify es n) active ≡ placed cs (askOf active modify es)
@@ -215,10 +211,47 @@ unfolding candidatesOf
 count-is true c h = h .other c
 count-is false c h = h .first c
 
+-- ---- a list that can be filled, and one that cannot
+pub record Fills (n active : ℕ) (modify : Bool) (bytes : ℕ) : Type 0 where
+  pub some : 0 < n
+  pub least : 1 ≤ active
+  pub most : active ≤ 16
+  pub enough : modify ≡ true → active ≤ bytes
+
+module _ (n active : ℕ) (modify : Bool) (bytes : ℕ) where
+  pub fills : canFill n active modify bytes ≡ true → Fills n active modify bytes
+  fills e =
+      let a = left (ltb 0 n && leb 1 active && leb active 16) _ e in
+      let b = left (ltb 0 n && leb 1 active) _ a in
+      record {
+        some = ltb-true 0 n (left (ltb 0 n) _ b);
+        least = leb-true 1 active (right (ltb 0 n) _ b);
+        most = leb-true active 16 (right (ltb 0 n && leb 1 active) _ a);
+        enough = λ t. leb-true active bytes (rw t at (right (ltb 0 n && leb 1 active && leb active 16) _ e));
+      }
+
+  pub can-fill : Fills n active modify bytes → canFill n active modify bytes ≡ true
+  can-fill h =
+      both (both (both (lt-ltb 0 n (h .some)) (le-leb 1 active (h .least))) (le-leb active 16 (h .most)))
+      (split modify (λ t. or-right (not modify) _ (le-leb active bytes (h .enough t))) (λ t. or-left (not modify) _ (rw t)))
+
+module _ {x : State.Refs} {own : Bool} {n : ℕ} (c : Serial) (second last : Bool) (active : ℕ) (modify : Bool) (es : List ℕ) (k : CandidateCount x own n) where
+  pub built-none : canFill n active modify (length es) ≡ false → builtOf x c own second last active modify es ≡ []
+  unfolding builtOf
+  built-none e = rw (← count-is second c k, e)
+
+  pub built-some : canFill n active modify (length es) ≡ true
+      → builtOf x c own second last active modify es ≡ withLast last active c (table (placeOf (candidatesOf x own second c) c modify es n) active)
+  unfolding builtOf
+  built-some e = rw (← count-is second c k, e)
+
 -- ---- a list that is filled place by place
-pub holds-none : (f : ℕ → Serial) → Padded 16 blankSerial (replicate 16 blankSerial) 0 (table f 0)
+pub none-held : (l : RefList) (xs : List Serial) → l ≡ noList → xs ≡ [] → HoldsList l xs
+none-held l xs e g = rw (e, g) (record { places = refl; long = refl; room = omega arith })
+
+pub holds-none : (f : ℕ → Serial) → HoldsList noList (table f 0)
 unfolding table
-holds-none f = record { places = refl; long = refl; room = omega arith }
+holds-none f = none-held noList (table f 0) refl refl
 
 pub holds-more : (f : ℕ → Serial) {items : List Serial} (j : ℕ) (s : Serial) → Padded 16 blankSerial items j (table f j) → j < 16 → s ≡ f j → Padded 16 blankSerial (set items j s) (j + 1) (table f (j + 1))
 unfolding table

@@ -8,6 +8,16 @@ pub mod rows;
 pub mod run;
 pub mod wishing;
 
+ghost use mathlib.Core.Path.{_≡_};
+ghost use Prim.Native.Nat.{min};
+
 // The greatest capacity of a store, and so the most entries of a begin, members of the sets and
 // places of a list. Written here, below all that use it; `Store::CAPACITY` is its name above.
 pub const CAPACITY: usize = 16;
+
+// The lesser of a count and the room that is left.
+pub fn fewer(n: usize, room: usize) -> usize
+    ensures { λ r. ⌜ r ≡ min n room ⌝ }
+{
+    if n < room { n } else { room }
+}

@@ -1,15 +1,15 @@
 // Reference lists (8.3.4): candidates, and places of them.
 use crate::CAPACITY;
+use crate::fewer;
 use crate::run;
 use paper::Serial;
 ghost use mathlib.Core.Path.{_≡_};
-ghost use mathlib.Core.Bool.{true, cond, not, _&&_};
+ghost use mathlib.Core.Bool.{Bool, true, cond, not, _&&_};
 ghost use Prim.Native.Nat.{ℕ, _+_, _-_, _%_, _<_, _≤_, min, max};
 ghost use lib.ListN.{length, getD};
 ghost use lib.Dec.{ltb, leb};
-ghost use Rattle.paper.specs.Words.{anyB};
-ghost use Rattle.paper.specs.RefLists.{placed};
-ghost use Rattle.derivation.specs.Lists.{refsIn, noList, HoldsList, StandsAt, askOf, CandidateCount, candidatesOf, listOf, Ready, swappedAt, placeIn};
+ghost use Rattle.paper.specs.Words.{anyB, table};
+ghost use Rattle.derivation.specs.Lists.{refsIn, noList, HoldsList, StandsAt, CandidateCount, candidatesOf, canFill, placeOf, builtOf, swappedAt, placeIn};
 
 // The sizes of the sets that lists draw on, StCurrBefore, StCurrAfter and LtCurr. Their members lie one behind the other in a run of serial numbers.
 pub struct Refs {
@@ -22,13 +22,6 @@ pub struct Refs {
 pub struct RefList {
     pub items: [Serial; CAPACITY],
     pub len: usize,
-}
-
-// The lesser of a count and the room that is left.
-fn fewer(n: usize, room: usize) -> usize
-    ensures { λ r. ⌜ r ≡ min n room ⌝ }
-{
-    if n < room { n } else { room }
 }
 
 // How many members the three sets have.
@@ -149,21 +142,27 @@ pub fn no_list() -> RefList
     RefList { items, len: 0 }
 }
 
+// Whether n candidates fill a list: one at least, 1 to 16 places, and with the modify bit an entry byte for each place.
+fn can_fill(n: usize, active: usize, modify: bool, bytes: usize) -> bool
+    ensures { λ r. ⌜ r ≡ canFill n active modify bytes ⌝ }
+{
+    (0 < n) & (1 <= active) & (active <= CAPACITY) & (!modify | (active <= bytes))
+}
+
 // The places of a list: "With n candidates, place j is candidate j mod n; with the modify bit it is the candidate at the entry byte".
 fn places(
     run: &[u32; CAPACITY],
     refs: Refs,
     c: Serial,
-    own: bool,
+    n: usize,
     second: bool,
     active: usize,
     modify: bool,
     entries: &[u8],
 ) -> RefList
-    requires { ⌜ Ready (refsIn (now run) refs) c own second active modify (now entries) ⌝ }
-    ensures { λ r. ⌜ HoldsList r (placed (candidatesOf (refsIn (now (run .entry)) refs) own second c) (askOf active modify (now (entries .entry)))) × (r .len ≡ active) ⌝ }
+    requires { ⌜ canFill n active modify (length (now entries)) ≡ true ⌝ }
+    ensures { λ r. ⌜ ((own : Bool) → HoldsList r (table (placeOf (candidatesOf (refsIn (now (run .entry)) refs) own second c) c modify (now (entries .entry)) n) active)) × (r .len ≡ active) ⌝ }
 {
-    let n = candidate_count(run, refs, own);
     let blank = Serial(0);
     let mut items = [blank; CAPACITY];
     let mut j: usize = 0;
@@ -174,7 +173,8 @@ fn places(
     RefList { items, len: active }
 }
 
-// A reference list (8.3.4): list 0, or list 1 (`second`); `last`: it has the current picture in its last active place.
+// A reference list (8.3.4): list 0, or list 1 (`second`); `last`: it has the current picture in its last active place. It has no place where the candidates
+// cannot fill it.
 pub fn build_ref_pic_list(
     run: &[u32; CAPACITY],
     refs: Refs,
@@ -186,10 +186,13 @@ pub fn build_ref_pic_list(
     modify: bool,
     entries: &[u8],
 ) -> RefList
-    requires { ⌜ Ready (refsIn (now run) refs) c own second active modify (now entries) ⌝ }
-    ensures { λ r. ⌜ HoldsList r (listOf (refsIn (now (run .entry)) refs) c own second last active modify (now (entries .entry))) ⌝ }
+    ensures { λ r. ⌜ HoldsList r (builtOf (refsIn (now (run .entry)) refs) c own second last active modify (now (entries .entry))) ⌝ }
 {
-    let mut l = places(run, refs, c, own, second, active as usize, modify, entries);
+    let n = candidate_count(run, refs, own);
+    if !can_fill(n, active as usize, modify, entries.len()) {
+        return no_list();
+    }
+    let mut l = places(run, refs, c, n, second, active as usize, modify, entries);
     if last {
         let at = l.len - 1;
         l.items[at] = c;

@@ -1,6 +1,7 @@
 // The run of the sets that lists draw on. It lies in lent words; these functions read and write it
 // as serials.
 use crate::CAPACITY;
+use crate::fewer;
 use paper::Serial;
 ghost use mathlib.Core.Path.{_≡_};
 ghost use Prim.Native.Nat.{ℕ, _<_, _≤_};
@@ -16,23 +17,24 @@ pub fn count_run(words: [u32; CAPACITY]) -> usize
 }
 
 // The member at a place of the run.
-pub fn member(run: &[u32; CAPACITY], i: usize) -> Serial
+pub(crate) fn member(run: &[u32; CAPACITY], i: usize) -> Serial
     requires { ⌜ i < 16 ⌝ }
     ensures { λ r. ⌜ r ≡ serialAt (now (run .entry)) i ⌝ }
 {
     Serial(run[i])
 }
 
-// The first n of the serials become the first n members; the words behind them stay.
+// The first n of the serials, all where n is over 16, become the first members; the words behind
+// them stay.
 pub fn put_members(run: &mut [u32; CAPACITY], xs: [Serial; CAPACITY], n: usize)
-    requires { ⌜ n ≤ 16 ⌝ }
     ensures members { λ _. ⌜ serialsIn (now (run .exit)) n ≡ membersOf xs n ⌝ }
     ensures behind { λ _. ⌜ ((i : ℕ) → n ≤ i → getD (now (run .exit)) i 0 ≡ getD (now (run .entry)) i 0) ⌝ }
     ensures long { λ _. ⌜ length (now (run .exit)) ≡ 16 ⌝ }
 {
     count_run(*run);
+    let most = fewer(n, CAPACITY);
     let mut i: usize = 0;
-    while i < n {
+    while i < most {
         let x = xs[i];
         run[i] = x.0;
         i += 1;

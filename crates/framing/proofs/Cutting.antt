@@ -75,6 +75,21 @@ front-in (suc n) (r ∷ rs) x w h =
 pub front-cut : (said : List (List ℕ)) (x : List ℕ) → allB isWhole said ≡ true → parts (joined said ++ x) ≡ behind said (parts x)
 front-cut said x w = front-in (length (joined said ++ x)) said x w (omega arith)
 
+-- where no whole one begins, none is cut off
+pub none-cut : (said : List (List ℕ)) (x : List ℕ) → allB isWhole said ≡ true → sizeOf (joined said ++ x) ≡ 0 → length said ≡ 0
+none-cut said x w z =
+    let l = joined said ++ x in
+    let a : length (cut l) ≡ 0 = ap (λ (p : Parts). length (p .whole)) (parts-none (length l) l z) in
+    let b : length (cut l) ≡ length (said ++ cut x) = ap (λ (p : Parts). length (p .whole)) (front-cut said x w) in
+    let c = length-append said (cut x) in
+    omega arith
+
+-- where something is cut off, at least one is
+pub some-joined : {l : List ℕ} (said : List (List ℕ)) → l ≡ joined said → 0 < length l → 0 < length said
+unfolding joined
+some-joined [] e h = let k = ap length e in omega arith
+some-joined (r ∷ rs) e h = omega arith
+
 -- HEADS LEAVE ONE WAY TO CUT: whole ones, and behind them a rest in which none begins
 pub one-cut : {file : List ℕ} (said : List (List ℕ)) (rest : List ℕ) → joined said ++ rest ≡ file → allB isWhole said ≡ true → sizeOf rest ≡ 0 → parts file ≡ record { whole = said; rest = rest }
 one-cut said rest e w z =

@@ -1,11 +1,16 @@
 -- The length that kind and counts call for, by cases.
-use Prim.Native.Nat.{ℕ, _+_, _*_}
+use Prim.Native.Nat.{ℕ, _+_, _*_, _<_}
 use mathlib.Core.Path.{_≡_}
 use mathlib.Core.List.{List}
 use lib.Dec.{eqb}
-use borrow.Author.Tests.{ne-eqb}
+use borrow.Author.Tests.{ne-eqb, lt-ltb}
 use Rattle.paper.specs.Numbers.{u8, u16}
 use Rattle.paper.specs.WholeReply.{tailEnd, membersOf, tailPlace, replyEnd}
+use Rattle.framing.specs.Counts.{pastCount}
+
+-- a count at a place that a reply can have
+pub past-count : (width : ℕ) (r : List ℕ) (at : ℕ) → at < 65539 → pastCount width r at ≡ at + 1 + width * u8 r at
+past-count width r at h = simp (lt-ltb at 65539 h)
 
 module _ (a : List ℕ) where
   pub tail-begun : u16 a 2 ≡ 258 → tailPlace a ≡ 20 + 4 * membersOf a

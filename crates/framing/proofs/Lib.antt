@@ -3,3 +3,5 @@ pub mod Moving
 pub mod Ends
 pub mod Keeping
 pub mod Cutting
+pub mod Running
+pub mod Laying

@@ -41,7 +41,7 @@ one-more d b from i h k e =
     ∙ next-moved d from (i - from) (omega arith)
     ∙ ap (moved d from) q
 
-pub all-moved : {b : List ℕ} (d : List ℕ) (from i end : ℕ) → i ≤ end → end ≤ i → b ≡ moved d from (i - from) → b ≡ moved d from (end - from)
-all-moved d from i end h k e =
-    let q : i ≡ end = omega arith in
-    e ∙ ap (λ (n : ℕ). moved d from (n - from)) q
+pub all-moved : {b : List ℕ} (d : List ℕ) (from i last : ℕ) → i - from ≤ last - from → last ≤ i → b ≡ moved d from (i - from) → b ≡ moved d from (last - from)
+all-moved d from i last h k e =
+    let q : i - from ≡ last - from = omega arith in
+    e ∙ ap (moved d from) q

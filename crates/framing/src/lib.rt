@@ -7,10 +7,9 @@ pub use replies::members;
 pub use replies::tail_place;
 pub use replies::thrown_at;
 ghost use mathlib.Core.Path.{_≡_};
-ghost use Prim.Native.Nat.{_-_, _≤_};
-ghost use lib.ListN.{length, drop};
-ghost use lib.Seq.{paste};
+ghost use Prim.Native.Nat.{min};
 ghost use Rattle.framing.specs.Cut.{sizeOf};
+ghost use Rattle.framing.specs.Turns.{shifted};
 
 // The size of the record or reply at the start of these bytes, or 0 where it is not whole yet.
 pub fn size(bytes: &[u8]) -> usize
@@ -26,13 +25,20 @@ pub fn size(bytes: &[u8]) -> usize
     n
 }
 
-// Moves the bytes from `from` to `end` to the start.
-pub fn shift(bytes: &mut [u8], from: usize, end: usize)
-    requires { ⌜ (from ≤ end) × (end ≤ length (now bytes)) ⌝ }
-    ensures { λ _. ⌜ now (bytes .exit) ≡ paste (now (bytes .entry)) 0 (drop from (now (bytes .entry))) (end - from) ⌝ }
+// The lesser of two places.
+fn lesser(a: usize, b: usize) -> usize
+    ensures { λ r. ⌜ r ≡ min a b ⌝ }
 {
+    if a < b { a } else { b }
+}
+
+// Moves the bytes from `from` to `end`, or to the last where `end` is past it, to the start.
+pub fn shift(bytes: &mut [u8], from: usize, end: usize)
+    ensures { λ _. ⌜ now (bytes .exit) ≡ shifted (now (bytes .entry)) from end ⌝ }
+{
+    let last = lesser(end, bytes.len());
     let mut i = from;
-    while i < end {
+    while i < last {
         bytes[i - from] = bytes[i];
         i += 1;
     }

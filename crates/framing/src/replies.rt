@@ -1,23 +1,31 @@
 // Whether the bytes of a reply are whole: the length that its kind and its counts call for.
 ghost use mathlib.Core.Path.{_≡_};
-ghost use Prim.Native.Nat.{_+_, _*_, _≤_, _<_};
-ghost use Rattle.paper.specs.Numbers.{u8};
+ghost use mathlib.Core.Bool.{cond};
+ghost use Prim.Native.Nat.{_+_, _≤_};
+ghost use lib.Dec.{ltb};
 ghost use Rattle.paper.specs.WholeReply.{tailPlace, membersOf, replyEnd, replyKind, wholeReply};
+ghost use Rattle.framing.specs.Counts.{pastCount};
+
+// The place behind a count at a place and n bytes more; a place behind every reply stays.
+fn past(at: usize, n: usize) -> usize
+    requires { ⌜ n ≤ 3060 ⌝ }
+    ensures { λ r. ⌜ (r ≡ cond (ltb at 65539) (at + 1 + n) at) × (r ≤ at + 1 + n) ⌝ }
+{
+    if at < 65539 { at + 1 + n } else { at }
+}
 
 // The place of the second count of the tail at a place.
 pub fn thrown_at(reply: &[u8], at: usize) -> usize
-    requires { ⌜ at < 20000 ⌝ }
-    ensures { λ r. ⌜ (r ≡ at + 1 + 12 * u8 (now (reply .entry)) at) × (r ≤ at + 3061) ⌝ }
+    ensures { λ r. ⌜ (r ≡ pastCount 12 (now (reply .entry)) at) × (r ≤ at + 3061) ⌝ }
 {
-    at + 1 + 12 * wire::byte(reply, at) as usize
+    past(at, 12 * wire::byte(reply, at) as usize)
 }
 
 // The place behind a count at a place and as many words.
 pub fn behind(reply: &[u8], at: usize) -> usize
-    requires { ⌜ at < 30000 ⌝ }
-    ensures { λ r. ⌜ (r ≡ at + 1 + 4 * u8 (now (reply .entry)) at) × (r ≤ at + 1021) ⌝ }
+    ensures { λ r. ⌜ (r ≡ pastCount 4 (now (reply .entry)) at) × (r ≤ at + 1021) ⌝ }
 {
-    at + 1 + 4 * wire::byte(reply, at) as usize
+    past(at, 4 * wire::byte(reply, at) as usize)
 }
 
 // The members of the five sets of a begun picture: "five u8 counts".

@@ -1,25 +1,25 @@
 -- Exchanges that are heard are cut off in front, and what waits behind them is moved to the start: all that was read is still there.
-use Prim.Native.Nat.{ℕ, _+_, _-_, _≤_, min}
+use Prim.Native.Nat.{ℕ, _+_, _-_, _≤_, _<_, min}
 use mathlib.Core.Path.{_≡_, refl, sym, ap, ap₂, subst, _∙_}
 use mathlib.Core.List.{List, [], _∷_, _++_, append-assoc}
 use mathlib.Core.Bool.{true, false, _&&_, _||_}
 use native.Mathlib.Omega.{arith}
 use lib.Dec.{ltb, eqb}
-use lib.ListN.{length, take, drop, length-append, length-drop}
+use lib.ListN.{length, take, drop, length-append, length-drop, take-append-drop}
 use lib.Seq.{paste, take-all, take-append-add, length-take-le, length-paste}
-use borrow.Author.Tests.{eqb-true, eqb-false, le-ltb}
+use borrow.Author.Tests.{eqb-true, eqb-false, le-ltb, ltb-false}
 use Rattle.paper.specs.Words.{allB}
 use Rattle.paper.specs.Records.{lengthOf}
 use Rattle.paper.specs.Ledger.{blank}
 use Rattle.paper.specs.Watch.{Verdict, watched}
-use Rattle.paper.proofs.Bools.{split, left}
+use Rattle.paper.proofs.Bools.{split, left, not-both}
+use Rattle.paper.proofs.Bools as Bools
 use Rattle.framing.specs.Cut.{sizeOf, joined, isWhole, cut, restOf}
 use Rattle.framing.proofs.Fitting.{within}
-use Rattle.framing.proofs.Cutting.{joined-append, all-append}
-use Rattle.framing.proofs.Keeping.{cut-off}
-use Rattle.watch.specs.declared.Tally.{Tally}
+use Rattle.framing.proofs.Cutting.{joined-append, all-append, none-cut, some-joined}
+use Rattle.framing.proofs.Keeping.{cut-off, none-brought}
 use Rattle.watch.specs.declared.pairing.Paired.{Paired}
-use Rattle.watch.specs.Book.{bookIn, noTally, most}
+use Rattle.watch.specs.Book.{bookIn, HoldsBook, noTally, most}
 use Rattle.watch.specs.Pairs.{tallyAll, Watches, WatchesAll}
 use Rattle.watch.proofs.Far.{length-none}
 use Rattle.watch.proofs.Exchanges.{watched-even, tally-append}
@@ -27,9 +27,9 @@ use Rattle.watch.proofs.Blocks.{next-block, next-place, next-book}
 use Rattle.ledger.specs.declared.Feed.{Feed}
 use Rattle.ledger.specs.declared.State.{State}
 use Rattle.ledger.specs.Verdict.{judged}
-use Rattle.ledger.specs.Turns.{brought, lessened, Judging, Says, Onward, Turned}
+use Rattle.ledger.specs.Turns.{brought, lessened, Judging, Says, Onward, Unread, exchangeWaits, Turned}
 use Rattle.ledger.proofs.Verdicts.{broken-stands, judged-front}
-use Rattle.ledger.proofs.Turning.{none-brought, still-same}
+use Rattle.ledger.proofs.Turning.{still-same}
 
 -- whole records or replies of no bytes are none
 none-whole : (rs : List (List ℕ)) → allB isWhole rs ≡ true → [] ≡ joined rs → rs ≡ []
@@ -60,7 +60,21 @@ cut-front {all} {after} f n before rs qs h k c e a =
 onward-less : (f : Feed) (n : ℕ) (before after : List ℕ) → f .held ≤ length before → n ≤ f .held → after ≡ paste before 0 (drop n before) (f .held - n) → Onward f (lessened f n) after
 onward-less f n before after h k e =
     let m : length after ≡ length before = ap length e ∙ length-paste before 0 (drop n before) (f .held - n) (omega arith) (simp length-drop (omega arith)) in
-    record { fd = refl; within = omega arith; ended = λ _. none-brought f (lessened f n) after (omega arith) }
+    record { fd = refl; within = omega arith; ended = λ _. none-brought (f .held) (f .held - n) after (omega arith) }
+
+unread-less : (f : Feed) (n : ℕ) (after : List ℕ) → Unread f (lessened f n) after
+unread-less f n after = record { none = none-brought (f .held) (f .held - n) after (omega arith); ended = refl; failed = refl }
+
+-- whole ones that were taken in front are whole where they wait
+whole-waits : (n : ℕ) (l : List ℕ) (rs : List (List ℕ)) → allB isWhole rs ≡ true → take n l ≡ joined rs → 0 < length rs → ltb 0 (sizeOf l) ≡ true
+whole-waits n l rs w e h =
+    split (ltb 0 (sizeOf l))
+    (λ y. y)
+    (λ z.
+    let k = ltb-false 0 (sizeOf l) z in
+    let q : l ≡ joined rs ++ drop n l = sym (take-append-drop n l) ∙ ap (λ (x : List ℕ). x ++ drop n l) e in
+    let m = none-cut rs (drop n l) w (sym (ap sizeOf q) ∙ omega arith) in
+    absurd (omega arith))
 
 module _ {p : Paired} (s : State) (records replies : List ℕ) (h : s .records .held ≤ length records) (k : s .replies .held ≤ length replies)
     (g : WatchesAll (s .book) (take (s .records .held) records) (take (s .replies .held) replies) p) where
@@ -68,7 +82,7 @@ module _ {p : Paired} (s : State) (records replies : List ℕ) (h : s .records .
   heard = g .watches
 
   -- where no byte was taken no exchange is whole
-  pub none-taken : p .taken ≡ 0 → (ltb 0 (sizeOf (take (s .records .held) records)) && ltb 0 (sizeOf (take (s .replies .held) replies))) ≡ false
+  pub none-taken : p .taken ≡ 0 → exchangeWaits s records replies ≡ false
   unfolding joined watched
   none-taken z =
       let w = take (s .records .held) records in
@@ -110,7 +124,7 @@ module _ {p : Paired} (s : State) (records replies : List ℕ) (h : s .records .
     both = watched 0 blank allSaid allAnswers
 
     part-both : p .part ≡ both .part
-    part-both = next-block blank (j .said) (j .answers) (j .unbroken) (j .ledger) heard
+    part-both = next-block blank (j .said) (j .answers) (j .unbroken) (j .book) heard
 
     even-both : length allSaid ≡ length allAnswers
     even-both =
@@ -118,18 +132,18 @@ module _ {p : Paired} (s : State) (records replies : List ℕ) (h : s .records .
         omega (arith, length-append (j .said) (heard .said), length-append (j .answers) (heard .answers), heard .even)
 
     number-both : min (s .number + p .pairs) most ≡ min (both .at) most
-    number-both = let e = next-place blank (j .said) (j .answers) (j .unbroken) (j .ledger) heard in omega (arith, j .number)
+    number-both = let e = next-place blank (j .said) (j .answers) (j .unbroken) (j .book) heard in omega (arith, j .number)
 
-    tally-both : p .book .tally ≡ tallyAll noTally (take (both .at) allAnswers)
-    tally-both =
-        let e = next-place blank (j .said) (j .answers) (j .unbroken) (j .ledger) heard in
+    book-both : HoldsBook (p .book) (both .ledger) (tallyAll noTally (take (both .at) allAnswers))
+    book-both =
+        let e = next-place blank (j .said) (j .answers) (j .unbroken) (j .book) heard in
         let n = watched-even 0 blank (j .said) (j .answers) (j .unbroken) .1 in
         let m : length (j .answers) + p .pairs ≡ both .at = omega arith in
         let t = take (p .pairs) (heard .answers) in
-        heard .tally
-        ∙ ap (λ (x : Tally). tallyAll x t) (j .tally)
-        ∙ sym (tally-append noTally (j .answers) t)
-        ∙ ap (tallyAll noTally) (sym (take-append-add (j .answers) (heard .answers) (p .pairs)) ∙ ap (λ (x : ℕ). take x allAnswers) m)
+        let u : tallyAll (tallyAll noTally (j .answers)) t ≡ tallyAll noTally (take (both .at) allAnswers) =
+        sym (tally-append noTally (j .answers) t)
+        ∙ ap (tallyAll noTally) (sym (take-append-add (j .answers) (heard .answers) (p .pairs)) ∙ ap (λ (x : ℕ). take x allAnswers) m) in
+        subst (HoldsBook (p .book) (both .ledger)) u (next-book blank (j .said) (j .answers) (j .unbroken) (j .book) heard)
 
     module _ {records′ replies′ : List ℕ} (a : records′ ≡ paste records 0 (drop (p .taken) records) (s .records .held - p .taken))
         (b : replies′ ≡ paste replies 0 (drop (p .answered) replies) (s .replies .held - p .answered)) where
@@ -152,8 +166,7 @@ module _ {p : Paired} (s : State) (records replies : List ℕ) (h : s .records .
             cut-answers = answers-both;
             unbroken = u;
             number = number-both;
-            ledger = next-book blank (j .said) (j .answers) (j .unbroken) (j .ledger) heard;
-            tally = tally-both ∙ ap (tallyAll noTally) (take-all (both .at) allAnswers (omega arith));
+            book = subst (λ (l : List (List ℕ)). HoldsBook (p .book) (both .ledger) (tallyAll noTally l)) (take-all (both .at) allAnswers (omega arith)) book-both;
           }
 
       breaks : (p .part ≡ 0 → ⊥) → (more others : List ℕ)
@@ -168,15 +181,29 @@ module _ {p : Paired} (s : State) (records replies : List ℕ) (h : s .records .
           ap₂ judged c d
           ∙ judged-front allSaid allAnswers (all-append isWhole (j .said) (heard .said) (j .whole-said) (heard .whole-said)) (all-append isWhole (j .answers) (heard .answers) (j .whole-answers) (heard .whole-answers)) (x ++ more) (y ++ others)
           ∙ broken-stands allSaid allAnswers even-both (cut (x ++ more)) (cut (y ++ others)) (length (restOf (y ++ others))) u in
-          rw v (record { part = part-both; number = number-both; ledger = next-book blank (j .said) (j .answers) (j .unbroken) (j .ledger) heard; tally = tally-both })
+          rw v (record { part = part-both; number = number-both; book = book-both })
+
+  -- where some were, one is
+  some-taken : (p .taken ≡ 0 → ⊥) → exchangeWaits s records replies ≡ true
+  some-taken n =
+      let w = take (s .records .held) records in
+      let v = take (s .replies .held) replies in
+      let e = length-take-le (p .taken) w (g .taken) in
+      let m = some-joined (heard .said) (heard .cut-said) (omega (arith, n)) in
+      Bools.both (whole-waits (p .taken) w (heard .said) (heard .whole-said) (heard .cut-said) m) (whole-waits (p .answered) v (heard .answers) (heard .whole-answers) (heard .cut-answers) (omega (arith, m, heard .even)))
 
   -- A TURN THAT HEARS EXCHANGES
   pub takes : {records′ replies′ : List ℕ} → records′ ≡ paste records 0 (drop (p .taken) records) (s .records .held - p .taken)
-      → replies′ ≡ paste replies 0 (drop (p .answered) replies) (s .replies .held - p .answered) → Turned s records replies nextState records′ replies′
-  takes {records′} {replies′} a b =
+      → replies′ ≡ paste replies 0 (drop (p .answered) replies) (s .replies .held - p .answered) → (p .taken ≡ 0 → ⊥) → Turned s records replies nextState records′ replies′
+  takes {records′} {replies′} a b n =
       record {
-        records-on = onward-less (s .records) (p .taken) records records′ h taken-within a;
-        replies-on = onward-less (s .replies) (p .answered) replies replies′ k answered-within b;
-        goes-on = λ R A j q. goes j a b (eqb-true (p .part) 0 q);
-        ends = λ R A j q x y more others c d. breaks j a b (eqb-false (p .part) 0 q) more others;
+        keeps =
+            record {
+              records-on = onward-less (s .records) (p .taken) records records′ h taken-within a;
+              replies-on = onward-less (s .replies) (p .answered) replies replies′ k answered-within b;
+              goes-on = λ R A j q. goes j a b (eqb-true (p .part) 0 q);
+              ends = λ R A j q x y more others c d. breaks j a b (eqb-false (p .part) 0 q) more others;
+            };
+        hears = λ _. (unread-less (s .records) (p .taken) records′, unread-less (s .replies) (p .answered) replies′);
+        reads = λ e. not-both (exchangeWaits s records replies) (some-taken n) e;
       }

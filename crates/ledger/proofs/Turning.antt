@@ -5,36 +5,27 @@ use mathlib.Core.List.{List, [], _++_, append-nil, append-assoc}
 use mathlib.Core.Bool.{Bool, true, false, not, _&&_}
 use native.Mathlib.Omega.{arith}
 use lib.Dec.{ltb}
-use lib.ListN.{length, take, length-take, take-append-drop, drop-of-length-le}
-use lib.Seq.{take-take, length-take-le}
+use lib.ListN.{length, take}
+use lib.Seq.{length-take-le}
 use borrow.Author.Tests.{eqb-true, lt-ltb, le-ltb, ltb-true, ltb-false}
 use Rattle.paper.specs.Words.{first}
 use Rattle.paper.specs.Ledger.{blank}
 use Rattle.paper.proofs.Bools.{not-both}
 use Rattle.framing.specs.Cut.{Parts, sizeOf, joined, parts, cut, restOf}
 use Rattle.framing.proofs.Cutting.{parts-none, cut-some}
+use Rattle.framing.proofs.Keeping.{none-brought, read-behind}
 use Rattle.watch.proofs.Exchanges.{watched-even}
 use Rattle.ledger.specs.declared.Feed.{Feed}
 use Rattle.ledger.specs.declared.State.{State}
 use Rattle.ledger.specs.Moves.{moveOf}
 use Rattle.ledger.specs.Verdict.{lastPart, judged}
-use Rattle.ledger.specs.Turns.{Fed, brought, stateOf, wants, Went, Judging, Says, Onward, Turned}
+use Rattle.ledger.specs.Turns.{Fed, brought, stateOf, wants, Went, Judging, Says, Onward, Keeps, exchangeWaits, Turned}
 use Rattle.ledger.proofs.Verdicts.{rest-decides, judged-front}
 
 -- ---- one file
 
--- where no more waits than before, nothing was read
-pub none-brought : (f r : Feed) (after : List ℕ) → r .held ≤ f .held → brought f r after ≡ []
-none-brought f r after h = let k = length-take (r .held) after in drop-of-length-le (take (r .held) after) {i = f .held} (omega arith)
-
--- a read goes behind what waits
-fed-waits : {f r : Feed} {before after : List ℕ} → Fed f before r after → take (r .held) after ≡ take (f .held) before ++ brought f r after
-fed-waits {f} {r} {before} {after} g =
-    sym (take-append-drop (f .held) (take (r .held) after))
-    ∙ ap (λ (l : List ℕ). l ++ brought f r after) (take-take (f .held) (r .held) after (g .grows) ∙ g .kept)
-
 pub still-same : {all : List ℕ} (f r : Feed) (after : List ℕ) → r .held ≤ f .held → all ++ brought f r after ≡ all
-still-same {all} f r after h = ap (λ (l : List ℕ). all ++ l) (none-brought f r after h) ∙ append-nil all
+still-same {all} f r after h = ap (λ (l : List ℕ). all ++ l) (none-brought (f .held) (r .held) after h) ∙ append-nil all
 
 -- a file in a turn: it goes on, and what is read stands behind what waits
 record Side (f : Feed) (before : List ℕ) (r : Feed) (after : List ℕ) : Type 0 where
@@ -48,17 +39,17 @@ side-fed {f} {r} {before} {after} g =
           record {
             fd = g .fd;
             within = g .within;
-            ended = λ e. let k = eqb-true (r .held) (f .held) (sym (g .ended) ∙ e) in none-brought f r after (omega arith);
+            ended = λ e. let k = eqb-true (r .held) (f .held) (sym (g .ended) ∙ e) in none-brought (f .held) (r .held) after (omega arith);
           };
       waits =
           λ all front e.
-          ap (λ (l : List ℕ). l ++ brought f r after) e ∙ append-assoc front (take (f .held) before) (brought f r after) ∙ ap (λ (l : List ℕ). front ++ l) (sym (fed-waits g));
+          ap (λ (l : List ℕ). l ++ brought f r after) e ∙ append-assoc front (take (f .held) before) (brought f r after) ∙ ap (λ (l : List ℕ). front ++ l) (read-behind (f .held) (r .held) before after (g .grows) (g .kept));
     }
 
 side-same : (f : Feed) (l : List ℕ) → f .held ≤ length l → Side f l f l
 side-same f l h =
     record {
-      onward = record { fd = refl; within = h; ended = λ e. none-brought f f l (omega arith) };
+      onward = record { fd = refl; within = h; ended = λ e. none-brought (f .held) (f .held) l (omega arith) };
       waits = λ all front e. still-same f f l (omega arith) ∙ e;
     }
 
@@ -109,7 +100,7 @@ module _ (n m rest : ℕ) where
 
 module _ (s : State) (records replies : List ℕ) (h : s .records .held ≤ length records) (k : s .replies .held ≤ length replies) where
   abbrev Next : State → List ℕ → List ℕ → Type 0
-  Next = Turned s records replies
+  Next = Keeps s records replies
 
   -- a run that ends after a read could not read
   reads : {f g : Feed} {records′ replies′ : List ℕ} (more : Bool) → Side (s .records) records f records′ → Side (s .replies) replies g replies′
@@ -129,8 +120,7 @@ module _ (s : State) (records replies : List ℕ) (h : s .records .held ≤ leng
               cut-answers = b .waits A (joined (j .answers)) (j .cut-answers);
               unbroken = j .unbroken;
               number = j .number;
-              ledger = j .ledger;
-              tally = j .tally;
+              book = j .book;
             };
         ends = λ R A j m p q. absurd (n m p q);
       }
@@ -162,7 +152,7 @@ module _ (s : State) (records replies : List ℕ) (h : s .records .held ≤ leng
       let p : R ++ more ≡ joined (j .said) ++ x = ap (λ (q : List ℕ). q ++ more) (j .cut-said) ∙ append-assoc (joined (j .said)) (take (s .records .held) records) more in
       let q : A ++ others ≡ joined (j .answers) ++ y = ap (λ (q : List ℕ). q ++ others) (j .cut-answers) ∙ append-assoc (joined (j .answers)) (take (s .replies .held) replies) others in
       let v = ap₂ judged p q ∙ judged-front (j .said) (j .answers) (j .whole-said) (j .whole-answers) x y ∙ rest-decides (j .said) (j .answers) e (cut x) (cut y) (length (restOf y)) (j .unbroken) (l .0) in
-      rw v (record { part = sym (l .1); number = j .number; ledger = j .ledger; tally = j .tally })
+      rw v (record { part = sym (l .1); number = j .number; book = j .book })
 
   stops : (part : ℕ) → ((more others : List ℕ) → (s .records .ended ≡ true → more ≡ []) → (s .replies .ended ≡ true → others ≡ []) → LastPart part more others)
       → Next (stateOf s (s .records) (s .replies) part false) records replies
@@ -239,8 +229,12 @@ module _ (s : State) (records replies : List ℕ) (h : s .records .held ≤ leng
     moved false true false true false e n w = stopped (stops-0 e) w
 
     -- A TURN THAT HEARS NOTHING
-    pub starved : (ltb 0 (sizeOf (take (s .records .held) records)) && ltb 0 (sizeOf (take (s .replies .held) replies))) ≡ false
-        → Went s (wants s records replies) records replies r records′ replies′ → Next r records′ replies′
+    pub starved : exchangeWaits s records replies ≡ false → Went s (wants s records replies) records replies r records′ replies′ → Turned s records replies r records′ replies′
     starved n w =
-        moved (ltb 0 (sizeOf (take (s .records .held) records))) (s .records .ended) (ltb 0 (sizeOf (take (s .replies .held) replies))) (s .replies .ended) (ltb 0 (s .replies .held))
-        (refl, refl, refl, refl, refl) n w
+        record {
+          keeps =
+              moved (ltb 0 (sizeOf (take (s .records .held) records))) (s .records .ended) (ltb 0 (sizeOf (take (s .replies .held) replies))) (s .replies .ended) (ltb 0 (s .replies .held))
+              (refl, refl, refl, refl, refl) n w;
+          hears = λ e. not-both (exchangeWaits s records replies) e n;
+          reads = λ _. w;
+        }

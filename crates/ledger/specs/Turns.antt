@@ -2,22 +2,29 @@
 use Prim.Native.Nat.{ℕ, _-_, _≤_, min}
 use mathlib.Core.Path.{_≡_}
 use mathlib.Core.List.{List, [], _++_}
-use mathlib.Core.Bool.{Bool, true, false, not}
-use lib.ListN.{length, take, drop}
+use mathlib.Core.Bool.{Bool, true, false, not, _&&_}
+use lib.ListN.{length, take}
 use lib.Dec.{ltb, eqb}
-use lib.IntN.{ℤ}
+use lib.IntN.{ℤ, pos, negsuc}
 use Rattle.paper.specs.Words.{allB}
 use Rattle.paper.specs.Ledger.{blank}
 use Rattle.paper.specs.Watch.{watched}
 use Rattle.framing.specs.Cut.{sizeOf, joined, isWhole}
-use Rattle.watch.specs.Book.{noTally, most}
-use Rattle.watch.specs.Pairs.{tallyAll, IsLedger}
+use Rattle.framing.specs.Turns as Reading
+use Rattle.framing.specs.Turns.{Ran, through}
+use Rattle.watch.specs.Book.{HoldsBook, noTally, most}
+use Rattle.watch.specs.Pairs.{tallyAll}
 use Rattle.ledger.specs.declared.Feed.{Feed}
 use Rattle.ledger.specs.declared.State.{State}
 use Rattle.ledger.specs.declared.Move.{Move}
 use Rattle.ledger.specs.declared.Move.the-variants.{Records, Replies, Stop}
 use Rattle.ledger.specs.Moves.{moveOf}
 use Rattle.ledger.specs.Verdict.{Answer, judged}
+
+-- a file that is open has a descriptor, which is no negative number; of the others one is answered, -1
+abbrev pub Opened : ℤ → Type 0
+Opened (pos k) = Unit {0}
+Opened (negsuc k) = k ≡ 0
 
 -- One read: what waits is kept, in front of what was read; a file has ended where nothing was; where there was no room it can't be read
 pub record Fed (f : Feed) (before : List ℕ) (r : Feed) (after : List ℕ) : Type 0 where
@@ -30,7 +37,7 @@ pub record Fed (f : Feed) (before : List ℕ) (r : Feed) (after : List ℕ) : Ty
 
 -- what was read
 abbrev pub brought : Feed → Feed → List ℕ → List ℕ
-brought f r after = drop (f .held) (take (r .held) after)
+brought f r after = Reading.brought (f .held) (r .held) after
 
 -- the bytes behind the first n wait
 abbrev pub lessened : Feed → ℕ → Feed
@@ -56,7 +63,7 @@ Went s Replies records replies r records′ replies′ =
 Went s (Stop part) records replies r records′ replies′ = (records′ ≡ records) × (replies′ ≡ replies) × (r ≡ stateOf s (s .records) (s .replies) part false)
 
 -- All that was read so far, R of the records and A of the replies, is whole records and as many whole replies that break nothing, and what still waits. The
--- book is their ledger, with their tally, and the number theirs, as far as 64 bits count
+-- book is their ledger, with their tally, in normal form; the number is theirs, as far as 64 bits count
 pub record Judging (s : State) (records replies R A : List ℕ) : Type 0 where
   pub said : List (List ℕ)
   pub answers : List (List ℕ)
@@ -66,15 +73,13 @@ pub record Judging (s : State) (records replies R A : List ℕ) : Type 0 where
   pub cut-answers : A ≡ joined answers ++ take (s .replies .held) replies
   pub unbroken : watched 0 blank said answers .part ≡ 0
   pub number : s .number ≡ min (watched 0 blank said answers .at) most
-  pub ledger : IsLedger (s .book) (watched 0 blank said answers .ledger)
-  pub tally : s .book .tally ≡ tallyAll noTally answers
+  pub book : HoldsBook (s .book) (watched 0 blank said answers .ledger) (tallyAll noTally answers)
 
 -- the state has this answer
 pub record Says (s : State) (x : Answer) : Type 0 where
   pub part : s .part ≡ x .part
   pub number : s .number ≡ min (x .at) most
-  pub ledger : IsLedger (s .book) (x .ledger)
-  pub tally : s .book .tally ≡ x .tally
+  pub book : HoldsBook (s .book) (x .ledger) (x .tally)
 
 -- THE ANSWER IS THAT OF THE TWO FILES: they begin with R and A, and a file that has ended is no longer than that
 abbrev pub Settled : State → List ℕ → List ℕ → Type 0
@@ -87,7 +92,7 @@ pub record Onward (f r : Feed) (after : List ℕ) : Type 0 where
   pub ended : r .ended ≡ true → brought f r after ≡ []
 
 -- One turn, whatever was read before it: the run goes on and what the turn brought is judged so far, or it ends with the answer, if both files could be read
-pub record Turned (s : State) (records replies : List ℕ) (r : State) (records′ replies′ : List ℕ) : Type 0 where
+pub record Keeps (s : State) (records replies : List ℕ) (r : State) (records′ replies′ : List ℕ) : Type 0 where
   pub records-on : Onward (s .records) (r .records) records′
   pub replies-on : Onward (s .replies) (r .replies) replies′
   pub goes-on : (R A : List ℕ) → Judging s records replies R A → r .more ≡ true
@@ -95,9 +100,62 @@ pub record Turned (s : State) (records replies : List ℕ) (r : State) (records�
   pub ends : (R A : List ℕ) → Judging s records replies R A → r .more ≡ false → r .records .failed ≡ false → r .replies .failed ≡ false
       → Settled r (R ++ brought (s .records) (r .records) records′) (A ++ brought (s .replies) (r .replies) replies′)
 
--- The whole run over two files, with all that its reads brought, in order: where it ended and both files could be read, the answer is theirs
-pub record Judges (records-fd replies-fd : ℤ) (r : State) : Type 0 where
+-- a whole record and a whole reply wait
+abbrev pub exchangeWaits : State → List ℕ → List ℕ → Bool
+exchangeWaits s records replies = ltb 0 (sizeOf (take (s .records .held) records)) && ltb 0 (sizeOf (take (s .replies .held) replies))
+
+-- nothing is read of a file, so it neither ends nor fails
+pub record Unread (f r : Feed) (after : List ℕ) : Type 0 where
+  pub none : brought f r after ≡ []
+  pub ended : r .ended ≡ f .ended
+  pub failed : r .failed ≡ f .failed
+
+pub record Turned (s : State) (records replies : List ℕ) (r : State) (records′ replies′ : List ℕ) : Type 0 where
+  pub keeps : Keeps s records replies r records′ replies′
+  -- where an exchange is whole it is heard, and nothing is read
+  pub hears : exchangeWaits s records replies ≡ true → Unread (s .records) (r .records) records′ × Unread (s .replies) (r .replies) replies′
+  -- where none is, the file that the run waits for is read on; a file has ended only where that brought nothing, and the run ends only where none is waited for
+  pub reads : exchangeWaits s records replies ≡ false → Went s (wants s records replies) records replies r records′ replies′
+
+-- where a run stands after a turn: the state and the two buffers
+pub record Stand : Type 0 where
+  pub state : State
+  pub records : List ℕ
+  pub replies : List ℕ
+
+abbrev pub standing : State → List ℕ → List ℕ → Stand
+standing s records replies = record { state = s; records = records; replies = replies }
+
+-- what the turn from one to the other read of the records, and of the replies
+abbrev pub recordsIn : Stand → Stand → List ℕ
+recordsIn b s = brought (b .state .records) (s .state .records) (s .records)
+
+abbrev pub repliesIn : Stand → Stand → List ℕ
+repliesIn b s = brought (b .state .replies) (s .state .replies) (s .replies)
+
+-- a file of which nothing was read yet
+abbrev pub unread : ℤ → Feed
+unread fd = record { fd = fd; held = 0; ended = false; failed = false }
+
+-- a run starts with a new book and the two files
+pub record Starts (records-fd replies-fd : ℤ) (s : Stand) : Type 0 where
+  pub book : HoldsBook (s .state .book) blank noTally
+  pub number : s .state .number ≡ 0
+  pub records : s .state .records ≡ unread records-fd
+  pub replies : s .state .replies ≡ unread replies-fd
+  pub more : s .state .more ≡ true
+
+-- and goes on turn by turn
+abbrev pub Turning : Stand → Stand → Type 0
+Turning b s = (b .state .more ≡ true) × Turned (b .state) (b .records) (b .replies) (s .state) (s .records) (s .replies)
+
+-- THE WHOLE RUN over two files: turns one after the other. R and A are what their reads brought of the records and of the replies, one behind the other;
+-- where the run ended and both files could be read, the answer is that of every two files that begin with R and A and end where they have ended
+pub record Judges (records-fd replies-fd : ℤ) (s : Stand) : Type 0 where
+  pub turns : List Stand
   pub R : List ℕ
   pub A : List ℕ
-  pub files : (r .records .fd ≡ records-fd) × (r .replies .fd ≡ replies-fd)
-  pub answer : r .more ≡ false → r .records .failed ≡ false → r .replies .failed ≡ false → Settled r R A
+  pub ran : Ran (Starts records-fd replies-fd) Turning turns s
+  pub read : R ≡ through recordsIn turns s
+  pub heard : A ≡ through repliesIn turns s
+  pub answer : s .state .more ≡ false → s .state .records .failed ≡ false → s .state .replies .failed ≡ false → Settled (s .state) R A

@@ -7,7 +7,7 @@ ghost use mathlib.Core.Path.{_≡_};
 ghost use Prim.Native.Nat.{_+_, _≤_, min};
 ghost use lib.ListN.{length};
 ghost use Rattle.ledger.specs.Moves.{moveOf};
-ghost use Rattle.ledger.specs.Turns.{Fed, lessened, stateOf, wants, Went, Turned, Judges};
+ghost use Rattle.ledger.specs.Turns.{Opened, Fed, lessened, stateOf, wants, Went, Turned, standing, Judges};
 
 // A record or a reply has at most 65,539 bytes, so there is always room to read on behind one that is not whole yet.
 const INPUT: usize = 131072;
@@ -185,7 +185,7 @@ fn turn(s: State, records: &mut [u8], replies: &mut [u8]) -> State
 
 // Turn after turn from a new book. Nothing says that the files end, so the turns are counted.
 fn run(records_fd: i32, replies_fd: i32, records: &mut [u8], replies: &mut [u8]) -> State
-    ensures { λ r. ⌜ Judges «records_fd» «replies_fd» r ⌝ }
+    ensures { λ r. ⌜ Judges «records_fd» «replies_fd» (standing r (now (records .exit)) (now (replies .exit))) ⌝ }
 {
     let mut s = State {
         book: Book::new(),
@@ -216,8 +216,10 @@ fn run(records_fd: i32, replies_fd: i32, records: &mut [u8], replies: &mut [u8])
     s
 }
 
-// Opens the file that an argument names, and says so where it can't.
-fn open(i: usize) -> i32 {
+// Opens the file that an argument names: a descriptor, or -1 where it can't, and then it says so.
+fn open(i: usize) -> i32
+    ensures { λ r. ⌜ Opened r ⌝ }
+{
     let mut path = io::buffer();
     let n = os::arg(i, &mut path);
     if os::errno() != 0 {
@@ -227,6 +229,7 @@ fn open(i: usize) -> i32 {
     let fd = os::open_read(&path[..n]);
     if fd < 0 {
         os::fail(&path[..n]);
+        return -1;
     }
     fd
 }

@@ -6,7 +6,7 @@ use mathlib.Core.Bool.{true, cond}
 use native.Mathlib.Omega.{arith}
 use lib.Dec.{eqb}
 use lib.ListN.{length, getD, take, drop, length-drop, length-append}
-use lib.Seq.{take-at, take-add, length-take-le, getD-take}
+use lib.Seq.{take-add, length-take-le, getD-take}
 use borrow.Author.Tests.{le-ltb, eqb-true}
 use Rattle.wire.specs.Bytes.{over}
 use Rattle.paper.specs.Words.{allB}
@@ -18,6 +18,8 @@ use Rattle.session.specs.declared.Answer.{Answer}
 use Rattle.session.specs.Said.{Permitted}
 use Rattle.session.specs.View.{Memory, sessionIn}
 use Rattle.framing.specs.Cut.{joined, isWhole}
+use Rattle.framing.specs.Laid.{laidAt}
+use Rattle.framing.proofs.Laying.{laid-part, put-more, put-none}
 use Rattle.replay.specs.Answers.{Added, Answers}
 use Rattle.framing.specs.Cut.{sizeOf}
 use Rattle.framing.proofs.Fitting.{size-whole, size-short}
@@ -31,7 +33,7 @@ same-room : (v : P.Session) (r : List ℕ) (room : ℕ) → 512 ≤ room → ste
 unfolding stepOf
 same-room v r room h = rw (le-ltb room 512 h)
 
-module _ {m m′ : Memory} {r part : List ℕ} {a : Answer} (made : ℕ) (before post : List ℕ) (h : made + 512 ≤ length before)
+module _ {m m′ : Memory} {r part : List ℕ} {a : Answer} (made : ℕ) (before : List ℕ) (h : made + 512 ≤ length before)
     (same : length part ≡ length (take (length before - made) (drop made before))) (p : Permitted m r (take (length before - made) (drop made before)) a m′ part) where
   mid : List ℕ
   mid = take (length before - made) (drop made before)
@@ -54,20 +56,17 @@ module _ {m m′ : Memory} {r part : List ℕ} {a : Answer} (made : ℕ) (before
   unfolding said mid
   len-is = ap (λ (x : Answer). x .len) (p .answer) ∙ ap length bytes-are
 
-  laid : take (made + a .len) (take made before ++ (part ++ post)) ≡ take made before ++ said
-  unfolding over mid
-  laid =
-      let rest = drop (length said) mid in
-      let e : part ≡ said ++ rest = p .bytes ∙ ap (λ (x : List ℕ). over x mid) bytes-are in
-      let f : take made before ++ (part ++ post) ≡ (take made before ++ said) ++ (rest ++ post) =
-      ap (λ (x : List ℕ). take made before ++ (x ++ post)) e ∙ ap (λ (x : List ℕ). take made before ++ x) (append-assoc said rest post) ∙ sym (append-assoc (take made before) said (rest ++ post)) in
-      let g : length (take made before ++ said) ≡ made + a .len =
-      length-append (take made before) said ∙ ap₂ (λ (x y : ℕ). x + y) (length-take-le made before (omega arith)) (sym len-is) in
-      ap (take (made + a .len)) f ∙ take-at (take made before ++ said) (rest ++ post) (made + a .len) g
-
-  pub added : Added m r made before a m′ (take made before ++ (part ++ post))
+  pub added : Added m r made before a m′ (take made before ++ (part ++ drop (length before - made) (drop made before)))
   unfolding said mid
-  added = let k = reply-fits p same in let q = room in record { fits = omega arith; bytes = laid; next = p .next ∙ ap (λ (x : Result). x .next) same-step }
+  added =
+      let k = reply-fits p same in
+      let q = room in
+      record {
+        fits = omega arith;
+        long = len-is;
+        bytes = laid-part made (length before - made) said before (omega (arith, len-is)) (p .bytes ∙ ap (λ (x : List ℕ). over x mid) bytes-are);
+        next = p .next ∙ ap (λ (x : Result). x .next) same-step;
+      }
 
 -- ---- one record more
 
@@ -89,13 +88,13 @@ replies-more : (v : P.Session) (rs : List (List ℕ)) (r : List ℕ) → joined 
 unfolding replies
 replies-more v rs r = ap joined (replies-append v rs (r ∷ [])) ∙ joined-more (replies v rs) (stepOf (sessionAfter v rs) r 512 .bytes)
 
-pub nothing-yet : (m : Memory) (input output : List ℕ) → Answers m input m 0 0 output
+pub nothing-yet : (m : Memory) (input output : List ℕ) → Answers m input m 0 0 output output
 unfolding joined replies sessionAfter allB
-nothing-yet m input output = record { said = []; whole = refl; cut = refl; replied = refl; after = refl }
+nothing-yet m input output = record { said = []; whole = refl; cut = refl; replied = put-none output; after = refl }
 
-module _ {m next m′ : Memory} {input output : List ℕ} {a : Answer} (taken made n : ℕ) (after : List ℕ) (h : 0 < n) (e : n ≡ sizeOf (drop taken input))
-    (g : Answers m input next taken made output) (d : Added next (take (taken + n - taken) (drop taken input)) made output a m′ after) where
-  pub one-answered : Answers m input m′ (taken + n) (made + a .len) after
+module _ {m next m′ : Memory} {input before output : List ℕ} {a : Answer} (taken made n : ℕ) (after : List ℕ) (h : 0 < n) (e : n ≡ sizeOf (drop taken input))
+    (g : Answers m input next taken made before output) (d : Added next (take (taken + n - taken) (drop taken input)) made output a m′ after) where
+  pub one-answered : Answers m input m′ (taken + n) (made + a .len) before after
   unfolding allB sessionAfter
   one-answered =
       let k : taken + n - taken ≡ n = omega arith in
@@ -106,7 +105,10 @@ module _ {m next m′ : Memory} {input output : List ℕ} {a : Answer} (taken ma
         said = rs ++ (r ∷ []);
         whole = all-append isWhole rs (r ∷ []) (g .whole) (both (size-whole (drop taken input) n h e) refl);
         cut = take-add taken n input ∙ ap (λ (x : List ℕ). x ++ r) (g .cut) ∙ sym (joined-more rs r);
-        replied = b .bytes ∙ ap₂ (λ (x : List ℕ) (v : P.Session). x ++ stepOf v r 512 .bytes) (g .replied) (g .after) ∙ sym (replies-more (sessionIn m) rs r);
+        replied =
+            rw (replies-more (sessionIn m) rs r)
+            (put-more (joined (replies (sessionIn m) rs)) _ (g .replied) (b .long ∙ ap (λ (v : P.Session). length (stepOf v r 512 .bytes)) (g .after))
+            (b .bytes ∙ ap (λ (v : P.Session). laidAt made (stepOf v r 512 .bytes) output) (g .after)));
         after = b .next ∙ ap (λ (v : P.Session). stepOf v r 512 .next) (g .after) ∙ sym (after-append (sessionIn m) rs (r ∷ []));
       }
 
@@ -120,39 +122,42 @@ none-said (r ∷ rs) w e =
     let b : 0 ≡ length r + length (joined rs) = ap length e ∙ length-append r (joined rs) in
     absurd (omega arith)
 
--- the session is as it was
-pub none-changed : {m next : Memory} {input output : List ℕ} {taken made : ℕ} → taken ≡ 0 → Answers m input next taken made output → sessionIn next ≡ sessionIn m
-unfolding sessionAfter
-none-changed {m} {next} {input} {output} {taken} {made} z a =
-    let g = subst (λ (n : ℕ). Answers m input next n made output) z a in
-    g .after ∙ ap (sessionAfter (sessionIn m)) (none-said (g .said) (g .whole) (g .cut))
+-- the session and the output are as they were
+module _ {m next : Memory} {input before output : List ℕ} {taken made : ℕ} (z : taken ≡ 0) (a : Answers m input next taken made before output) where
+  said-none : a .said ≡ []
+  said-none = none-said (a .said) (a .whole) (sym (ap (λ (n : ℕ). take n input) z) ∙ a .cut)
 
-none-made : {m next : Memory} {input output : List ℕ} {made : ℕ} → Answers m input next 0 made output → made ≤ length output → made ≡ 0
-unfolding joined replies
-none-made {m} {output = output} {made = made} g h =
-    let e : take made output ≡ [] = g .replied ∙ ap (λ (rs : List (List ℕ)). joined (replies (sessionIn m) rs)) (none-said (g .said) (g .whole) (g .cut)) in
-    let k : length (take made output) ≡ 0 = ap length e in
-    let q = length-take-le made output h in
-    omega arith
+  pub none-changed : sessionIn next ≡ sessionIn m
+  unfolding sessionAfter
+  none-changed = a .after ∙ ap (sessionAfter (sessionIn m)) said-none
 
--- where no record is whole there is room to read on
-module _ {m next : Memory} (held taken made : ℕ) (input output : List ℕ) (none : taken ≡ 0) (g : Answers m (take held input) next taken made output)
-    (all : made + 512 ≤ length output → sizeOf (drop taken (take held input)) ≡ 0) (within : made ≤ length output) (room : 512 ≤ length output)
-    (bytes : (k : ℕ) → getD input k 0 < 256) (long : 65539 ≤ length input) (inside : held ≤ length input) where
-  no-size : sizeOf (take held input) ≡ 0
+  pub none-written : output ≡ before
+  unfolding joined replies over
+  none-written = a .replied .bytes ∙ ap (λ (rs : List (List ℕ)). over (joined (replies (sessionIn m) rs)) before) said-none
+
+  none-made : made ≡ 0
+  unfolding joined replies
+  none-made = a .replied .long ∙ ap (λ (rs : List (List ℕ)). length (joined (replies (sessionIn m) rs))) said-none
+
+-- where none is taken no record is whole
+module _ {m next : Memory} {before : List ℕ} (held taken made : ℕ) (input output : List ℕ) (none : taken ≡ 0) (g : Answers m (take held input) next taken made before output)
+    (all : made + 512 ≤ length output → sizeOf (drop taken (take held input)) ≡ 0) (room : 512 ≤ length output) where
+  pub no-size : sizeOf (take held input) ≡ 0
   no-size =
-      let z : made ≡ 0 = none-made (subst (λ (n : ℕ). Answers m (take held input) next n made output) none g) within in
+      let z = none-made none g in
       subst (λ (n : ℕ). sizeOf (drop n (take held input)) ≡ 0) none (all (omega arith))
 
-  small : 4 ≤ length (take held input) → lengthOf (take held input) < 65536
-  small h =
-      let e = length-take-le held input inside in
-      let a : getD (take held input) 0 0 ≡ getD input 0 0 = getD-take held input 0 0 (omega arith) in
-      let b : getD (take held input) 1 0 ≡ getD input 1 0 = getD-take held input 1 0 (omega arith) in
-      omega (arith, bytes 0, bytes 1)
+  -- and there is room to read on
+  module _ (bytes : (k : ℕ) → getD input k 0 < 256) (long : 65539 ≤ length input) (inside : held ≤ length input) where
+    small : 4 ≤ length (take held input) → lengthOf (take held input) < 65536
+    small h =
+        let e = length-take-le held input inside in
+        let a : getD (take held input) 0 0 ≡ getD input 0 0 = getD-take held input 0 0 (omega arith) in
+        let b : getD (take held input) 1 0 ≡ getD input 1 0 = getD-take held input 1 0 (omega arith) in
+        omega (arith, bytes 0, bytes 1)
 
-  pub room-left : held < length input
-  room-left =
-      let k = size-short (take held input) small no-size in
-      let e = length-take-le held input inside in
-      omega arith
+    pub room-left : held < length input
+    room-left =
+        let k = size-short (take held input) small no-size in
+        let e = length-take-le held input inside in
+        omega arith

@@ -1,5 +1,5 @@
 pub mod Fitting
 pub mod Answering
 pub mod Turning
-pub mod Runs
+pub mod Running
 pub mod Paper

@@ -1,12 +1,12 @@
 -- Demand 3 of the program's own bytes: from memory that `fresh` made, whatever the reads of its turns brought, the blocks that the turns made are the paper's replies to
 -- the whole records in it; as cut by their heads these exchanges keep demand 3, and a ledger over them finds nothing broken.
-use Prim.Native.Nat.{ℕ, suc, _+_}
+use Prim.Native.Nat.{ℕ, suc, _+_, _<_}
 use mathlib.Core.Path.{_≡_, refl, sym, ap, ap₂, subst, _∙_}
 use mathlib.Core.List.{List, [], _∷_, _++_, map, append-nil}
 use mathlib.Core.Bool.{Bool, true}
 use native.Mathlib.Omega.{arith}
 use lib.Dec.{ltb}
-use lib.ListN.{length}
+use lib.ListN.{length, getD, take, drop, take-append-drop}
 use borrow.Author.Tests.{eq-eqb}
 use Rattle.paper.specs.Words.{allB}
 use Rattle.paper.specs.Records.{lengthOf}
@@ -17,16 +17,17 @@ use Rattle.paper.specs.Ledger.{Exchange, blank, told}
 use Rattle.paper.specs.Statement.{Bytes, Kept, Statement, exchanges, ledgerOf}
 use Rattle.paper.specs.Watch.{watched, pairs}
 use Rattle.paper.proofs.Bools.{both}
+use Rattle.paper.proofs.Every.{All}
 use Rattle.paper.proofs.Rooms.{any-room}
 use Rattle.paper.proofs.Refusals.{head-says}
 use Rattle.paper.proofs.Demand.{demand}
 use Rattle.paper.proofs.Unbroken.{watched-fresh}
 use Rattle.framing.specs.Cut.{Parts, sizeOf, joined, isWhole, cut, restOf}
-use Rattle.framing.proofs.Cutting.{parts-none, front-cut, one-cut, all-parts, all-joined}
-use Rattle.session.specs.View.{sessionIn}
-use Rattle.replay.specs.Turns.{Stand, waiting, Turn, Turns, broughtIn, madeIn, Took, KeptRun}
+use Rattle.framing.specs.Turns.{through}
+use Rattle.framing.proofs.Cutting.{parts-none, front-cut, one-cut, all-append, all-parts, all-joined}
+use Rattle.session.proofs.Bridge.{lent-bytes}
+use Rattle.replay.specs.Turns.{Stand, waiting, readIn, Replays, KeptRun}
 use Rattle.replay.proofs.Answering.{after-append}
-use Rattle.replay.proofs.Runs.{took}
 
 -- ---- a session's replies
 
@@ -65,66 +66,71 @@ all-answered (r ∷ rs) = ap (λ (l : List (List ℕ)). r ∷ l) (all-answered r
 stated : (rs : List (List ℕ)) → Bytes rs → Statement (roomy rs) rs
 stated rs b = let e = all-answered rs in subst (Statement (roomy rs)) e (demand (roomy rs) (subst Bytes (sym e) b))
 
--- ---- the program: its turns from memory that `fresh` made, with nothing waiting
+-- ---- what is read are bytes: the input buffer is lent to each turn as `&mut [u8]`, and of a slice of u8 the kit knows that each element is below 256 (`slice-known`)
 
-module _ (a : Stand) (start : sessionIn (a .memory) ≡ fresh) (none : waiting a ≡ []) (ts : List Turn) (z : Stand) (h : Turns a ts z) where
+abbrev Lent : Stand → Type 0
+Lent s = (k : ℕ) → getD (s .input) k 0 < 256
+
+pub brought-bytes : (turns : List Stand) (s : Stand) → All Lent turns → Lent s → allB (λ (b : ℕ). ltb b 256) (through readIn turns s) ≡ true
+unfolding through allB
+brought-bytes [] s g l = refl
+brought-bytes (b ∷ earlier) s g l =
+    let f : ℕ → Bool = λ (x : ℕ). ltb x 256 in
+    let xs = s .input in
+    let n = s .after .held in
+    let m = b .after .held in
+    let held = all-parts f (take n xs) (drop n xs) (ap (allB f) (take-append-drop n xs) ∙ lent-bytes xs l) .0 in
+    let new = all-parts f (take m (take n xs)) (drop m (take n xs)) (ap (allB f) (take-append-drop m (take n xs)) ∙ held) .1 in
+    all-append f (through readIn earlier b) (drop m (take n xs)) (brought-bytes earlier b (g .1) (g .0)) new
+
+-- ---- the program: where its run stands after any of its turns
+
+module _ (s : Stand) (t : Replays s) where
   abbrev R : List ℕ
-  R = broughtIn a ts z h
+  R = t .R
 
   abbrev W : List ℕ
-  W = madeIn a ts z h
-
-  abbrev t : Took a z (waiting a ++ R) W
-  t = took a ts z h
+  W = t .W
 
   abbrev rs : List (List ℕ)
   rs = t .said
 
-  -- all that was read is the records taken and what waits
-  taken : R ≡ joined rs ++ waiting z
-  taken = ap (λ (l : List ℕ). l ++ R) (sym none) ∙ t .taken
+  cut-records : cut R ≡ rs ++ cut (waiting s)
+  cut-records = ap cut (t .kept) ∙ ap (λ (p : Parts). p .whole) (front-cut rs (waiting s) (t .whole))
 
-  cut-records : cut R ≡ rs ++ cut (waiting z)
-  cut-records = ap cut taken ∙ ap (λ (p : Parts). p .whole) (front-cut rs (waiting z) (t .whole))
-
-  all-taken : sizeOf (waiting z) ≡ 0 → cut R ≡ rs
-  all-taken n = cut-records ∙ ap (λ (p : Parts). rs ++ p .whole) (parts-none (length (waiting z)) (waiting z) n) ∙ append-nil rs
-
-  made : W ≡ joined (replies fresh rs)
-  made = t .replied ∙ ap (λ (s : P.Session). joined (replies s rs)) start
+  all-taken : sizeOf (waiting s) ≡ 0 → cut R ≡ rs
+  all-taken n = cut-records ∙ ap (λ (p : Parts). rs ++ p .whole) (parts-none (length (waiting s)) (waiting s) n) ∙ append-nil rs
 
   parts-made : _≡_ {A = Parts} (record { whole = cut W; rest = restOf W }) (record { whole = replies fresh rs; rest = [] })
   unfolding sessionAfter
-  parts-made = one-cut (replies fresh rs) [] (append-nil (joined (replies fresh rs)) ∙ sym made) (replies-whole [] rs) refl
+  parts-made = one-cut (replies fresh rs) [] (append-nil (joined (replies fresh rs)) ∙ sym (t .replied)) (replies-whole [] rs) refl
 
   cut-made : cut W ≡ replies fresh rs
   cut-made = ap (λ (p : Parts). p .whole) parts-made
 
   heard : pairs (cut R) (cut W) ≡ exchanges fresh rs
-  heard = ap₂ pairs cut-records cut-made ∙ pairs-front fresh rs (cut (waiting z))
+  heard = ap₂ pairs cut-records cut-made ∙ pairs-front fresh rs (cut (waiting s))
 
-  -- WHERE NO WHOLE RECORD WAITS, THE BLOCKS ARE THE PAPER'S REPLIES TO THE WHOLE RECORDS THAT WERE READ
-  pub replay-replies : sizeOf (waiting z) ≡ 0 → W ≡ joined (replies fresh (cut R))
-  replay-replies n = made ∙ ap (λ (l : List (List ℕ)). joined (replies fresh l)) (sym (all-taken n))
+  -- WHERE NO WHOLE RECORD WAITS, WHAT WAS MADE IS THE PAPER'S REPLIES TO THE WHOLE RECORDS THAT WERE READ
+  pub replay-replies : sizeOf (waiting s) ≡ 0 → W ≡ joined (replies fresh (cut R))
+  replay-replies n = t .replied ∙ ap (λ (l : List (List ℕ)). joined (replies fresh l)) (sym (all-taken n))
 
   -- what is read are bytes: `brought-bytes` has it of the lent buffers
   module _ (bytes : allB (λ (b : ℕ). ltb b 256) R ≡ true) where
     records-bytes : Bytes rs
-    records-bytes = let f : ℕ → Bool = λ (x : ℕ). ltb x 256 in all-joined f rs (all-parts f (joined rs) (waiting z) (ap (allB f) (sym taken) ∙ bytes) .0)
+    records-bytes = let f : ℕ → Bool = λ (x : ℕ). ltb x 256 in all-joined f rs (all-parts f (joined rs) (waiting s) (ap (allB f) (sym (t .kept)) ∙ bytes) .0)
 
     -- DEMAND 3 OF WHAT WAS READ AND WHAT WAS MADE
-    pub replay-kept : KeptRun R W z
+    pub replay-kept : KeptRun R W s
     replay-kept =
         let d = stated rs records-bytes in
         record {
           kept = subst Kept (sym heard) (d .kept);
-          true-to =
-              ap (told blank) heard ∙ d .true-to
-              ∙ ap ledgerOf (any-room fresh (roomy rs) ∙ ap (sessionAfter fresh) (all-answered rs) ∙ sym (t .later ∙ ap (λ (s : P.Session). sessionAfter s rs) start));
+          true-to = ap (told blank) heard ∙ d .true-to ∙ ap ledgerOf (any-room fresh (roomy rs) ∙ ap (sessionAfter fresh) (all-answered rs) ∙ sym (t .session));
           done = ap (λ (p : Parts). p .rest) parts-made;
           even = λ n. ap length (all-taken n) ∙ as-many fresh rs ∙ ap length (sym cut-made);
         }
 
     -- and a ledger over them finds nothing broken
-    pub replay-unbroken : sizeOf (waiting z) ≡ 0 → watched 1 blank (cut R) (cut W) .part ≡ 0
+    pub replay-unbroken : sizeOf (waiting s) ≡ 0 → watched 1 blank (cut R) (cut W) .part ≡ 0
     replay-unbroken n = ap₂ (λ (x y : List (List ℕ)). watched 1 blank x y .part) (all-taken n) cut-made ∙ watched-fresh rs records-bytes

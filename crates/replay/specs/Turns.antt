@@ -1,62 +1,99 @@
--- A run of turns of the program: what its reads brought, the blocks of replies that it made, and demand 3 of these bytes.
-use Prim.Native.Nat.{ℕ}
+-- What a turn of the program does, and what its whole run does: "reads records from standard input and writes the replies".
+use Prim.Native.Nat.{ℕ, _≤_, _<_}
 use mathlib.Core.Path.{_≡_}
-use mathlib.Core.List.{List, [], _∷_, _++_}
-use mathlib.Core.Bool.{true}
-use lib.ListN.{length, take, drop}
+use mathlib.Core.List.{List, [], _++_}
+use mathlib.Core.Bool.{true, false, not}
+use lib.Dec.{ltb}
+use lib.ListN.{length, take}
 use Rattle.paper.specs.Words.{allB}
+use Rattle.paper.specs.State.{fresh}
 use Rattle.paper.specs.Step.{replies, sessionAfter}
 use Rattle.paper.specs.Ledger.{blank, told}
 use Rattle.paper.specs.Statement.{Kept, ledgerOf}
 use Rattle.paper.specs.Watch.{pairs}
 use Rattle.framing.specs.Cut.{sizeOf, joined, isWhole, cut, restOf}
+use Rattle.framing.specs.Laid.{Puts}
+use Rattle.framing.specs.Turns.{brought, Ran, through}
 use Rattle.session.specs.View.{Memory, sessionIn}
-use Rattle.replay.specs.Answers.{Turned}
+use Rattle.replay.specs.declared.After.{After}
 
--- before, between and after the turns: the memory, the input buffer, and how many bytes wait at its start
-pub record Stand : Type 0 where
-  pub memory : Memory
-  pub input : List ℕ
-  pub held : ℕ
+-- One read: what waits is kept, in front of what was read; the run goes on just where something was, and nothing was where the read failed
+pub record Fed (held : ℕ) (before : List ℕ) (r : After) (after : List ℕ) : Type 0 where
+  pub within : r .held ≤ length after
+  pub grows : held ≤ r .held
+  pub kept : take held after ≡ take held before
+  pub none-made : r .made ≡ 0
+  pub goes-on : r .more ≡ ltb held (r .held)
+  pub failed : r .unread ≡ true → r .more ≡ false
+  pub unwritten : r .unwritten ≡ false
 
-abbrev pub waiting : Stand → List ℕ
-waiting a = take (a .held) (a .input)
-
--- one turn: what it left, and the output buffer then
-pub record Turn : Type 0 where
-  pub left : Stand
-  pub output : List ℕ
-
--- from a these turns, each as the contract of `turn` says and each on what the one before it left, end in z
-abbrev pub Turns : Stand → List Turn → Stand → Type 0
-Turns a [] z = a ≡ z
-Turns a (t ∷ ts) z = Turned (a .memory) (a .held) (a .input) (t .left .memory) (t .left .held) (t .left .input) (t .output) × Turns (t .left) ts z
-
--- what was read, one behind the other: of each turn the bytes that wait then behind those that it left waiting
-unfoldable pub broughtIn : (a : Stand) (ts : List Turn) (z : Stand) → Turns a ts z → List ℕ
-broughtIn a [] z e = []
-broughtIn a (t ∷ ts) z h = drop (h .0 .left) (waiting (t .left)) ++ broughtIn (t .left) ts z (h .1)
-
--- the blocks that were made, one behind the other: of each turn the first `made` bytes of its output
-unfoldable pub madeIn : (a : Stand) (ts : List Turn) (z : Stand) → Turns a ts z → List ℕ
-madeIn a [] z e = []
-madeIn a (t ∷ ts) z h = take (h .0 .made) (t .output) ++ madeIn (t .left) ts z (h .1)
-
--- The turns from a to z, where `all` waited or was read and W was made: the records taken are whole, and all else still waits; W is the paper's replies to them,
--- one behind the other, and the session is the paper's after them
-pub record Took (a z : Stand) (all W : List ℕ) : Type 0 where
+-- One turn. `said` are the records that it answers. The first `made` bytes of the output, which it hands to `write_all`, are the replies, and behind them the
+-- output is as it was
+pub record Turned (m : Memory) (held : ℕ) (before written : List ℕ) (m′ : Memory) (r : After) (after output : List ℕ) : Type 0 where
   pub said : List (List ℕ)
   pub whole : allB isWhole said ≡ true
-  pub taken : all ≡ joined said ++ waiting z
-  pub replied : W ≡ joined (replies (sessionIn (a .memory)) said)
-  pub later : sessionIn (z .memory) ≡ sessionAfter (sessionIn (a .memory)) said
+  -- no byte is lost: what waited, and behind it what was read, is the records answered, and behind them what waits now
+  pub kept : take held before ++ brought held (r .held) after ≡ joined said ++ take (r .held) after
+  pub replied : Puts (r .made) (joined (replies (sessionIn m) said)) written output
+  pub later : sessionIn m′ ≡ sessionAfter (sessionIn m) said
+  -- where a whole record waits, that one at least is answered and nothing is read; the run goes on unless the replies could not be written
+  pub answers : 0 < sizeOf (take held before) → (0 < length said) × (brought held (r .held) after ≡ []) × (r .more ≡ not (r .unwritten)) × (r .unread ≡ false)
+  -- it reads on only where no whole record waits, so that none is left behind unanswered; the run goes on just where something was read, which a read that
+  -- fails never does
+  pub reads : sizeOf (take held before) ≡ 0 → (said ≡ []) × (r .more ≡ ltb held (r .held)) × (r .unwritten ≡ false) × (r .unread ≡ true → r .more ≡ false)
 
--- DEMAND 3 of the program's own bytes: R is what its reads brought, W the blocks that it made, and z how it stands then
-pub record KeptRun (R W : List ℕ) (z : Stand) : Type 0 where
+-- where a run stands after a turn: the session's memory, what the turn gave, and the two buffers
+pub record Stand : Type 0 where
+  pub memory : Memory
+  pub after : After
+  pub input : List ℕ
+  pub output : List ℕ
+
+abbrev pub standing : Memory → After → List ℕ → List ℕ → Stand
+standing m r input output = record { memory = m; after = r; input = input; output = output }
+
+-- what waits there
+abbrev pub waiting : Stand → List ℕ
+waiting s = take (s .after .held) (s .input)
+
+-- what the turn from one to the other read, and what it handed to `write_all`
+abbrev pub readIn : Stand → Stand → List ℕ
+readIn b s = brought (b .after .held) (s .after .held) (s .input)
+
+abbrev pub writtenIn : Stand → Stand → List ℕ
+writtenIn b s = take (s .after .made) (s .output)
+
+-- a run starts with a fresh session, and nothing waits
+abbrev pub Starts : Stand → Type 0
+Starts s = (sessionIn (s .memory) ≡ fresh) × (s .after .held ≡ 0) × (s .after .more ≡ true)
+
+-- and goes on turn by turn
+abbrev pub Turns : Stand → Stand → Type 0
+Turns b s = (b .after .more ≡ true) × Turned (b .memory) (b .after .held) (b .input) (b .output) (s .memory) (s .after) (s .input) (s .output)
+
+-- THE WHOLE RUN: turns one after the other. R is what their reads brought, one behind the other, and W what they handed to `write_all`
+pub record Replays (s : Stand) : Type 0 where
+  pub turns : List Stand
+  pub R : List ℕ
+  pub W : List ℕ
+  pub ran : Ran Starts Turns turns s
+  pub read : R ≡ through readIn turns s
+  pub handed : W ≡ through writtenIn turns s
+  -- whenever it ends, R is whole records and what waits, and W the replies to these records, in their order, from a fresh session
+  pub said : List (List ℕ)
+  pub whole : allB isWhole said ≡ true
+  pub kept : R ≡ joined said ++ waiting s
+  pub replied : W ≡ joined (replies fresh said)
+  pub session : sessionIn (s .memory) ≡ sessionAfter fresh said
+  -- W IS THE REPLIES TO THE WHOLE RECORDS OF R, where it ends because no more is read: "an incomplete last record ends the run without a reply"
+  pub all : s .after .more ≡ false → s .after .unwritten ≡ false → (W ≡ joined (replies fresh (cut R))) × (waiting s ≡ restOf R)
+
+-- DEMAND 3 of the program's own bytes: R is what its reads brought, W what it handed to `write_all`, and s where it stands then
+pub record KeptRun (R W : List ℕ) (s : Stand) : Type 0 where
   -- the exchanges of the whole records of R and the replies, as cut by their heads
   pub kept : Kept (pairs (cut R) (cut W))
   -- the lines of the ledger are the pictures that the session holds
-  pub true-to : told blank (pairs (cut R) (cut W)) ≡ ledgerOf (sessionIn (z .memory))
+  pub true-to : told blank (pairs (cut R) (cut W)) ≡ ledgerOf (sessionIn (s .memory))
   -- no byte of the replies is left over, and where no whole record waits, each has its reply
   pub done : restOf W ≡ []
-  pub even : sizeOf (waiting z) ≡ 0 → length (cut R) ≡ length (cut W)
+  pub even : sizeOf (waiting s) ≡ 0 → length (cut R) ≡ length (cut W)

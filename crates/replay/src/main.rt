@@ -5,11 +5,11 @@ use session::HEAD;
 use store::Store;
 ghost use mathlib.Core.Path.{_≡_};
 ghost use Prim.Native.Nat.{_+_, _-_, _≤_, _<_};
-ghost use lib.ListN.{length, take, drop};
-ghost use Rattle.paper.specs.State.{fresh as freshSession};
+ghost use lib.ListN.{length, drop};
 ghost use Rattle.framing.specs.Cut.{sizeOf};
-ghost use Rattle.session.specs.View.{memory, sessionIn};
-ghost use Rattle.replay.specs.Answers.{Added, Answers, Turned};
+ghost use Rattle.session.specs.View.{memory};
+ghost use Rattle.replay.specs.Answers.{Added, Answers};
+ghost use Rattle.replay.specs.Turns.{Fed, Turned, standing, Replays};
 
 // A record has at most 65,539 bytes, so there is always room to read on behind one that is not whole yet.
 const INPUT: usize = 131072;
@@ -23,10 +23,14 @@ struct Answered {
     made: usize,
 }
 
-// How many bytes wait at the start of the input buffer, and whether the run goes on.
+// How many bytes wait at the start of the input buffer, how many bytes of replies were handed over to be written, whether the run goes on, and whether
+// standard input could not be read or standard output not be written.
 struct After {
     held: usize,
+    made: usize,
     more: bool,
+    unread: bool,
+    unwritten: bool,
 }
 
 // Answers one record, with the reply behind the `made` bytes of the earlier ones.
@@ -53,7 +57,7 @@ fn answer(
     replies: &mut [u8],
 ) -> Answered
     ensures within { λ r. ⌜ (r .taken ≤ length (now (bytes .entry))) × (r .made ≤ length (now (replies .exit))) ⌝ }
-    ensures answers { λ r. ⌜ Answers (memory (now (head .entry)) (now (sets .entry)) (now (places .entry))) (now (bytes .entry)) (memory (now (head .exit)) (now (sets .exit)) (now (places .exit))) (r .taken) (r .made) (now (replies .exit)) ⌝ }
+    ensures answers { λ r. ⌜ Answers (memory (now (head .entry)) (now (sets .entry)) (now (places .entry))) (now (bytes .entry)) (memory (now (head .exit)) (now (sets .exit)) (now (places .exit))) (r .taken) (r .made) (now (replies .entry)) (now (replies .exit)) ⌝ }
     ensures all { λ r. ⌜ (r .made + 512 ≤ length (now (replies .exit)) → sizeOf (drop (r .taken) (now (bytes .entry))) ≡ 0) ⌝ }
 {
     let mut taken = 0;
@@ -71,18 +75,21 @@ fn answer(
     Answered { taken, made }
 }
 
-// One read behind the `held` bytes that wait, with room for one byte at least: none is read only at the end of the input, which ends the run.
+// One read behind the `held` bytes that wait, with room for one byte at least: none is read at the end of the input, or where it can't be read, and either
+// ends the run.
 fn read_on(held: usize, input: &mut [u8]) -> After
     requires { ⌜ held < length (now input) ⌝ }
-    ensures { λ r. ⌜ r .held ≤ length (now (input .exit)) ⌝ }
-    ensures kept { λ r. ⌜ (take held (now (input .exit)) ≡ take held (now (input .entry))) × (held ≤ r .held) ⌝ }
+    ensures { λ r. ⌜ Fed held (now (input .entry)) r (now (input .exit)) ⌝ }
 {
     let rest = &mut input[held..];
     let got = libc::read(0, rest);
     let n = io::count(got, rest);
     After {
         held: held + n,
+        made: 0,
         more: n > 0,
+        unread: got < 0,
+        unwritten: false,
     }
 }
 
@@ -98,7 +105,7 @@ fn turn(
     requires { ⌜ held ≤ length (now input) ⌝ }
     requires { ⌜ (65539 ≤ length (now input)) × (512 ≤ length (now output)) ⌝ }
     ensures { λ r. ⌜ r .held ≤ length (now (input .exit)) ⌝ }
-    ensures turned { λ r. ⌜ Turned (memory (now (head .entry)) (now (sets .entry)) (now (places .entry))) held (now (input .entry)) (memory (now (head .exit)) (now (sets .exit)) (now (places .exit))) (r .held) (now (input .exit)) (now (output .exit)) ⌝ }
+    ensures turned { λ r. ⌜ Turned (memory (now (head .entry)) (now (sets .entry)) (now (places .entry))) held (now (input .entry)) (now (output .entry)) (memory (now (head .exit)) (now (sets .exit)) (now (places .exit))) r (now (input .exit)) (now (output .exit)) ⌝ }
 {
     let a = answer(head, sets, places, &input[..held], output);
     let taken = a.taken;
@@ -110,33 +117,60 @@ fn turn(
     framing::shift(input, taken, held);
     After {
         held: held - taken,
+        made,
         more,
+        unread: false,
+        unwritten: !more,
     }
 }
 
 // Turn after turn from a fresh session. Nothing says that the input ends, so the turns are counted.
-fn run(input: &mut [u8], output: &mut [u8])
+fn run(
+    head: &mut [u32; HEAD],
+    sets: &mut [u32; Store::CAPACITY],
+    places: &mut [u32; Store::WORDS],
+    input: &mut [u8],
+    output: &mut [u8],
+) -> After
     requires { ⌜ (65539 ≤ length (now input)) × (512 ≤ length (now output)) ⌝ }
+    ensures { λ r. ⌜ Replays (standing (memory (now (head .exit)) (now (sets .exit)) (now (places .exit))) r (now (input .exit)) (now (output .exit))) ⌝ }
 {
-    let mut head = [0u32; HEAD];
-    let mut sets = [0u32; Store::CAPACITY];
-    let mut places = [0u32; Store::WORDS];
-    session::fresh(&mut head, &mut sets, &mut places);
-    let mut held = 0;
+    session::fresh(head, sets, places);
+    let mut t = After {
+        held: 0,
+        made: 0,
+        more: true,
+        unread: false,
+        unwritten: false,
+    };
     let mut left: u64 = 18446744073709551615;
     while left > 0 {
-        let t = turn(&mut head, &mut sets, &mut places, held, input, output);
+        t = turn(head, sets, places, t.held, input, output);
         if !t.more {
-            return;
+            return t;
         }
-        held = t.held;
         left -= 1;
+    }
+    t
+}
+
+// What failed is named on standard error.
+fn finish(t: After) {
+    if t.unread {
+        io::write_all(2, b"replay: standard input can't be read\n");
+    }
+    if t.unwritten {
+        io::write_all(2, b"replay: standard output can't be written\n");
     }
 }
 
-// Both buffers are here, of one size for any length of input.
+// The session and both buffers are here, of one size for any length of input.
 fn main() {
+    let mut head = [0u32; HEAD];
+    let mut sets = [0u32; Store::CAPACITY];
+    let mut places = [0u32; Store::WORDS];
     let mut input = [0u8; INPUT];
     let mut output = [0u8; OUTPUT];
-    run(&mut input, &mut output);
+    let t = run(&mut head, &mut sets, &mut places, &mut input, &mut output);
+    finish(t);
 }

@@ -55,7 +55,7 @@ use Rattle.store.specs.Shelf.{word, stored}
 use Rattle.store.specs.Places.{front, storedIn}
 use Rattle.store.specs.Tails.{tailIn}
 use Rattle.store.specs.Bumps.{Leaves}
-use Rattle.store.specs.Runs.{wishesIn, HoldsSets, Derives}
+use Rattle.store.specs.Runs.{wishesIn, wishesWithin, HoldsSets, Derives}
 use Rattle.session.specs.Laid.{sizesOf, frontOf, headWords}
 use Rattle.session.specs.Laid as Laid
 use Rattle.session.specs.View.{Memory, memory, sessionIn, sessionOf, Front, frontIn, limitsAt, flagOf, begunFront}
@@ -64,6 +64,7 @@ use Rattle.session.specs.Parts.{headOf, HoldsWishes}
 use Rattle.session.specs.Written.{FewMembers, numbersFrom, memberBytes, begunPart, toldBytes}
 use Rattle.session.specs.Starts.{flagsFrom, prevFrom, currentFrom, toldFrom, refsFrom, Passed, Placed, Wished, Tells}
 use Rattle.store.proofs.Shelf.{table-same, table-map, table-join}
+use Rattle.store.proofs.Marks.{within-room}
 use Rattle.session.proofs.Bytes.{take-table, words-join}
 use Rattle.session.proofs.Entries.{entries-are}
 use Rattle.session.proofs.Ways.{begin-6, begin-0}
@@ -248,7 +249,7 @@ tells h us vs ps p t x {l} {b} {y} {p′} {c} {before} {a} {after} el eb ey k w 
 -- ---- a begin that nothing refuses, from what its parts did: the marks and the sets, then the room and the reply, then the words beside the store
 
 module _ (m : Memory) (r : List ℕ) (h : Head) (t : Start) (ps : List ℤ) (hs : List ℕ) (q : Wished (sessionIn m) r h t ps hs)
-    {l : Limits} (y : Derived) (el : l ≡ limitsAt (m .head)) (d : Derives (modulus l) (unmarkedIf (t .flags .over) (stored (m .places))) (wishesIn ps hs (h .neg) (h .pos) (h .lt)) y)
+    {l : Limits} (y : Derived) (el : l ≡ limitsAt (m .head)) (d : Derives (modulus l) (unmarkedIf (t .flags .over) (stored (m .places))) (wishesWithin ps hs (h .neg) (h .pos) (h .lt)) y)
     {before : List ℕ} {a : Answer} {p′ after : List ℕ} (w : Tells (m .head) (y .first) (y .second) (storedIn (y .store)) (m .places) t (y .sizes) before a p′ after)
     (xs : List ℕ) (n : length xs ≡ 16) (is : serialsIn xs (y .sizes .before + y .sizes .after + y .sizes .long) ≡ membersOf (y .first) (y .sizes .before + y .sizes .after + y .sizes .long))
     (behind : (i : ℕ) → y .sizes .before + y .sizes .after + y .sizes .long ≤ i → word xs i ≡ word (m .sets) i) where
@@ -262,7 +263,9 @@ module _ (m : Memory) (r : List ℕ) (h : Head) (t : Start) (ps : List ℤ) (hs 
   fs = fieldsOf r
 
   derived : Derives (modulus (limitsAt (m .head))) (unmarkedIf (t .flags .over) (stored (m .places))) (wishesIn ps hs (h .neg) (h .pos) (h .lt)) y
-  derived = subst (λ (z : Limits). Derives (modulus z) (unmarkedIf (t .flags .over) (stored (m .places))) (wishesIn ps hs (h .neg) (h .pos) (h .lt)) y) el d
+  derived =
+      subst (λ (z : Limits). Derives (modulus z) (unmarkedIf (t .flags .over) (stored (m .places))) (wishesIn ps hs (h .neg) (h .pos) (h .lt)) y) el
+      (subst (λ (z : Wishes). Derives (modulus l) (unmarkedIf (t .flags .over) (stored (m .places))) z y) (within-room ps hs (h .neg) (h .pos) (h .lt) (q .few)) d)
 
   -- the pictures that step 4 marked
   marked-is : storedIn (y .store) ≡ marksOf (modulus (limitsAt (m .head))) (unmarkedIf (t .flags .over) (stored (m .places))) (wishesIn ps hs (h .neg) (h .pos) (h .lt))

@@ -24,9 +24,10 @@ use Rattle.paper.proofs.Bools.{left, right}
 use Rattle.paper.proofs.Ways.{first-none, yes-of}
 use Rattle.paper.proofs.Fits.{table-length}
 use Rattle.derivation.specs.declared.rows.RefList.{RefList}
-use Rattle.derivation.specs.Lists.{noList, candidatesOf, listOf, CandidateCount, Ready, HoldsList}
+use Rattle.derivation.specs.Lists.{noList, candidatesOf, listOf, builtOf, CandidateCount, Ready, HoldsList}
 use Rattle.derivation.proofs.Pad.{is-view, is-good}
-use Rattle.derivation.proofs.Instances.{list0-is, list1-is, candidates-0, candidates-1}
+use Rattle.derivation.proofs.Runs.{none-held}
+use Rattle.derivation.proofs.Instances.{list0-is, list1-is, built-is, candidates-0, candidates-1}
 use Rattle.session.specs.declared.Answer.{Answer}
 use Rattle.session.specs.declared.Refusal.{Refusal}
 use Rattle.session.specs.declared.listing.Ask.{Ask}
@@ -237,31 +238,29 @@ module _ {x : Refs} {c : Serial} {a : Ask} {own : Bool} {es : List ℕ} (r : Lis
 
 -- ---- the two lists
 
-holds-none : (l : RefList) (xs : List Serial) → l ≡ noList → xs ≡ [] → HoldsList l xs
-holds-none l xs e g = rw (e, g) (record { places = refl; long = refl; room = omega arith })
-
 module _ (x : Refs) (c : Serial) (f : Slice) (l : RefList) {a : Ask} where
   pub unused-0 : AsksAs a (f .ask0) → a .uses ≡ false → l ≡ noList → HoldsList l (list0 x c f)
   unfolding list0
-  unused-0 p u e = let v : f .ask0 .uses ≡ false = sym (p .uses) ∙ u in holds-none l (list0 x c f) e (rw v)
+  unused-0 p u e = let v : f .ask0 .uses ≡ false = sym (p .uses) ∙ u in none-held l (list0 x c f) e (rw v)
 
   pub unused-1 : AsksAs a (f .ask1) → a .uses ≡ false → l ≡ noList → HoldsList l (list1 x c f)
   unfolding list1
-  unused-1 p u e = let v : f .ask1 .uses ≡ false = sym (p .uses) ∙ u in holds-none l (list1 x c f) e (rw v)
+  unused-1 p u e = let v : f .ask1 .uses ≡ false = sym (p .uses) ∙ u in none-held l (list1 x c f) e (rw v)
 
   module _ {own : Bool} {es : List ℕ} (o : own ≡ f .own) (u : a .uses ≡ true) where
     pub held-0 : {n : ℕ} {last : Bool} → AsksAs a (f .ask0) → es ≡ f .ask0 .entries → CandidateCount x own n → last ≡ (own && not (a .modify) && ltb (a .active) n)
-        → HoldsList l (listOf x c own false last (a .active) (a .modify) es) → HoldsList l (list0 x c f)
-    held-0 {last = last} p e k j h =
+        → Ready x c own false (a .active) (a .modify) es → HoldsList l (builtOf x c own false last (a .active) (a .modify) es) → HoldsList l (list0 x c f)
+    held-0 {last = last} p e k j q h =
         let v : f .ask0 .uses ≡ true = sym (p .uses) ∙ u in
         let i : list0 x c f ≡ listOf x c own false last (a .active) (a .modify) es = rw (j, k .first c, o, p .active, p .modify, e) (list0-is x c f v) in
-        rw i h
+        rw (i, ← built-is last q) h
 
-    pub held-1 : AsksAs a (f .ask1) → es ≡ f .ask1 .entries → HoldsList l (listOf x c own true false (a .active) (a .modify) es) → HoldsList l (list1 x c f)
-    held-1 p e h =
+    pub held-1 : AsksAs a (f .ask1) → es ≡ f .ask1 .entries → Ready x c own true (a .active) (a .modify) es → HoldsList l (builtOf x c own true false (a .active) (a .modify) es)
+        → HoldsList l (list1 x c f)
+    held-1 p e q h =
         let v : f .ask1 .uses ≡ true = sym (p .uses) ∙ u in
         let i : list1 x c f ≡ listOf x c own true false (a .active) (a .modify) es = rw (o, p .active, p .modify, e) (list1-is x c f v) in
-        rw i h
+        rw (i, ← built-is false q) h
 
 pub listable : (l : RefList) (xs : List Serial) → HoldsList l xs → Listable l
 listable l xs h = record { holds = is-good h }

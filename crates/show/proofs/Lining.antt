@@ -5,7 +5,7 @@ use mathlib.Core.List.{List, [], _∷_, _++_, append-assoc, append-nil}
 use mathlib.Core.Bool.{true}
 use native.Mathlib.Omega.{arith}
 use lib.ListN.{length, getD, take, drop, length-drop, length-append}
-use lib.Seq.{take-at, take-add, length-take-le, getD-take}
+use lib.Seq.{take-add, length-take-le, getD-take}
 use borrow.Author.Tests.{eqb-true}
 use Rattle.wire.specs.Bytes.{over}
 use Rattle.paper.specs.Words.{allB}
@@ -14,30 +14,19 @@ use Rattle.paper.proofs.Bools.{both, left, right}
 use Rattle.show.specs.Lines.{lineOf, following}
 use Rattle.framing.specs.Cut.{sizeOf, joined, isWhole}
 use Rattle.show.specs.Stream.{linesOf, numberAfter, Added, Lines}
+use Rattle.framing.specs.Laid.{laidAt}
 use Rattle.framing.proofs.Fitting.{size-whole, size-short}
+use Rattle.framing.proofs.Laying.{laid-part, put-more, put-none}
 
 -- ---- one line
 
-module _ (number : ℕ) (r : List ℕ) {part : List ℕ} {len : ℕ} (made : ℕ) (before post : List ℕ) (h : made + 28457 ≤ length before)
-    (p : (len ≡ length (lineOf number r)) × (len ≤ 28457) × (part ≡ over (lineOf number r) (take (length before - made) (drop made before)))) where
-  said : List ℕ
-  said = lineOf number r
-
-  laid : take (made + len) (take made before ++ (part ++ post)) ≡ take made before ++ said
-  unfolding over said
-  laid =
-      let mid = take (length before - made) (drop made before) in
-      let rest = drop (length said) mid in
-      let e : part ≡ said ++ rest = p .2 in
-      let f : take made before ++ (part ++ post) ≡ (take made before ++ said) ++ (rest ++ post) =
-      ap (λ (x : List ℕ). take made before ++ (x ++ post)) e ∙ ap (λ (x : List ℕ). take made before ++ x) (append-assoc said rest post) ∙ sym (append-assoc (take made before) said (rest ++ post)) in
-      let g : length (take made before ++ said) ≡ made + len =
-      length-append (take made before) said ∙ ap₂ (λ (x y : ℕ). x + y) (length-take-le made before (omega arith)) (sym (p .0)) in
-      ap (take (made + len)) f ∙ take-at (take made before ++ said) (rest ++ post) (made + len) g
-
-  pub added : Added number r made before len (take made before ++ (part ++ post))
-  unfolding said
-  added = let k = p .1 in record { size = p .0; fits = omega arith; bytes = laid }
+pub added : {number len made : ℕ} {r part before : List ℕ} → made + 28457 ≤ length before
+    → (len ≡ length (lineOf number r)) × (len ≤ 28457) × (part ≡ over (lineOf number r) (take (length before - made) (drop made before)))
+    → Added number r made before len (take made before ++ (part ++ drop (length before - made) (drop made before)))
+added {number} {len} {made} {r} {part} {before} h p =
+    let k = p .1 in
+    let q = length-take-le (length before - made) (drop made before) (simp length-drop (omega arith)) in
+    record { size = p .0; fits = omega arith; bytes = laid-part made (length before - made) (lineOf number r) before (omega (arith, p .0)) (p .2) }
 
 -- ---- one reply more
 
@@ -62,13 +51,13 @@ unfolding allB
 whole-more [] r a b = both b refl
 whole-more (q ∷ rs) r a b = both (left (isWhole q) (allB isWhole rs) a) (whole-more rs r (right (isWhole q) (allB isWhole rs) a) b)
 
-pub nothing-yet : (n : ℕ) (input output : List ℕ) → Lines n input n 0 0 output
+pub nothing-yet : (n : ℕ) (input output : List ℕ) → Lines n input n 0 0 output output
 unfolding joined linesOf numberAfter allB
-nothing-yet n input output = record { read = []; whole = refl; cut = refl; lines = refl; number = refl }
+nothing-yet n input output = record { read = []; whole = refl; cut = refl; lines = put-none output; number = refl }
 
-module _ {number next later len : ℕ} {input output : List ℕ} (taken made n : ℕ) (after : List ℕ) (h : 0 < n) (e : n ≡ sizeOf (drop taken input)) (f : later ≡ following next)
-    (g : Lines number input next taken made output) (d : Added next (take (taken + n - taken) (drop taken input)) made output len after) where
-  pub one-lined : Lines number input later (taken + n) (made + len) after
+module _ {number next later len : ℕ} {input before output : List ℕ} (taken made n : ℕ) (after : List ℕ) (h : 0 < n) (e : n ≡ sizeOf (drop taken input)) (f : later ≡ following next)
+    (g : Lines number input next taken made before output) (d : Added next (take (taken + n - taken) (drop taken input)) made output len after) where
+  pub one-lined : Lines number input later (taken + n) (made + len) before after
   one-lined =
       let k : taken + n - taken ≡ n = omega arith in
       let r = take n (drop taken input) in
@@ -78,7 +67,9 @@ module _ {number next later len : ℕ} {input output : List ℕ} (taken made n :
         read = rs ++ (r ∷ []);
         whole = whole-more rs r (g .whole) (size-whole (drop taken input) n h e);
         cut = take-add taken n input ∙ ap (λ (x : List ℕ). x ++ r) (g .cut) ∙ sym (joined-more rs r);
-        lines = b .bytes ∙ ap₂ (λ (x : List ℕ) (y : ℕ). x ++ lineOf y r) (g .lines) (g .number) ∙ sym (lines-more number rs r);
+        lines =
+            rw (lines-more number rs r)
+            (put-more (linesOf number rs) _ (g .lines) (b .size ∙ ap (λ (y : ℕ). length (lineOf y r)) (g .number)) (b .bytes ∙ ap (λ (y : ℕ). laidAt made (lineOf y r) output) (g .number)));
         number = f ∙ ap following (g .number) ∙ sym (number-more number rs r);
       }
 
@@ -92,32 +83,38 @@ none-read (r ∷ rs) w e =
     let b : 0 ≡ length r + length (joined rs) = ap length e ∙ length-append r (joined rs) in
     absurd (omega arith)
 
-none-made : {number next : ℕ} {input output : List ℕ} {made : ℕ} → Lines number input next 0 made output → made ≤ length output → made ≡ 0
-unfolding joined linesOf
-none-made {number} {output = output} {made = made} g h =
-    let e : take made output ≡ [] = g .lines ∙ ap (linesOf number) (none-read (g .read) (g .whole) (g .cut)) in
-    let k : length (take made output) ≡ 0 = ap length e in
-    let q = length-take-le made output h in
-    omega arith
+-- no line was made, and the output is as it was
+module _ {number next : ℕ} {input before output : List ℕ} {taken made : ℕ} (z : taken ≡ 0) (g : Lines number input next taken made before output) where
+  read-none : g .read ≡ []
+  read-none = none-read (g .read) (g .whole) (sym (ap (λ (n : ℕ). take n input) z) ∙ g .cut)
 
--- where no reply is whole there is room to read on
-module _ {number next : ℕ} (held taken made : ℕ) (input output : List ℕ) (none : taken ≡ 0) (g : Lines number (take held input) next taken made output)
-    (all : made + 28457 ≤ length output → sizeOf (drop taken (take held input)) ≡ 0) (within : made ≤ length output) (room : 28457 ≤ length output)
-    (bytes : (k : ℕ) → getD input k 0 < 256) (long : 65539 ≤ length input) (inside : held ≤ length input) where
-  no-size : sizeOf (take held input) ≡ 0
+  pub none-written : output ≡ before
+  unfolding linesOf over
+  none-written = g .lines .bytes ∙ ap (λ (rs : List (List ℕ)). over (linesOf number rs) before) read-none
+
+  none-made : made ≡ 0
+  unfolding linesOf
+  none-made = g .lines .long ∙ ap (λ (rs : List (List ℕ)). length (linesOf number rs)) read-none
+
+-- where none is taken no reply is whole
+module _ {number next : ℕ} {before : List ℕ} (held taken made : ℕ) (input output : List ℕ) (none : taken ≡ 0) (g : Lines number (take held input) next taken made before output)
+    (all : made + 28457 ≤ length output → sizeOf (drop taken (take held input)) ≡ 0) (room : 28457 ≤ length output) where
+  pub no-size : sizeOf (take held input) ≡ 0
   no-size =
-      let m : made ≡ 0 = none-made (subst (λ (n : ℕ). Lines number (take held input) next n made output) none g) within in
+      let m = none-made none g in
       subst (λ (n : ℕ). sizeOf (drop n (take held input)) ≡ 0) none (all (omega arith))
 
-  small : 4 ≤ length (take held input) → lengthOf (take held input) < 65536
-  small h =
-      let e = length-take-le held input inside in
-      let a : getD (take held input) 0 0 ≡ getD input 0 0 = getD-take held input 0 0 (omega arith) in
-      let b : getD (take held input) 1 0 ≡ getD input 1 0 = getD-take held input 1 0 (omega arith) in
-      omega (arith, bytes 0, bytes 1)
+  -- and there is room to read on
+  module _ (bytes : (k : ℕ) → getD input k 0 < 256) (long : 65539 ≤ length input) (inside : held ≤ length input) where
+    small : 4 ≤ length (take held input) → lengthOf (take held input) < 65536
+    small h =
+        let e = length-take-le held input inside in
+        let a : getD (take held input) 0 0 ≡ getD input 0 0 = getD-take held input 0 0 (omega arith) in
+        let b : getD (take held input) 1 0 ≡ getD input 1 0 = getD-take held input 1 0 (omega arith) in
+        omega (arith, bytes 0, bytes 1)
 
-  pub room-left : held < length input
-  room-left =
-      let k = size-short (take held input) small no-size in
-      let e = length-take-le held input inside in
-      omega arith
+    pub room-left : held < length input
+    room-left =
+        let k = size-short (take held input) small no-size in
+        let e = length-take-le held input inside in
+        omega arith

@@ -2,3 +2,4 @@ pub mod Text
 pub mod Lists
 pub mod Lines
 pub mod Stream
+pub mod Turns

@@ -6,11 +6,12 @@ mod text;
 
 ghost use mathlib.Core.Path.{_≡_};
 ghost use Prim.Native.Nat.{_+_, _-_, _≤_, _<_};
-ghost use lib.ListN.{length, take, drop};
+ghost use lib.ListN.{length, drop};
 ghost use Rattle.wire.specs.Bytes.{over};
-ghost use Rattle.show.specs.Lines.{lineOf, restOf, following};
+ghost use Rattle.show.specs.Lines.{following};
 ghost use Rattle.framing.specs.Cut.{sizeOf};
-ghost use Rattle.show.specs.Stream.{Added, Lines, Turned};
+ghost use Rattle.show.specs.Stream.{Added, Lines};
+ghost use Rattle.show.specs.Turns.{stoppedAt, Last, Fed, Turned, standing, Shows};
 
 // A reply has at most 65,539 bytes, so there is always room to read on behind one that is not whole yet.
 const INPUT: usize = 131072;
@@ -28,11 +29,15 @@ struct Lined {
     made: usize,
 }
 
-// The number of the next reply, how many bytes wait at the start of the input buffer, and whether the run goes on.
+// The number of the next reply, how many bytes wait at the start of the input buffer, how many bytes of lines were handed over to be written, whether the
+// run goes on, and whether standard input could not be read or standard output not be written.
 struct After {
     next: u64,
     held: usize,
+    made: usize,
     more: bool,
+    unread: bool,
+    unwritten: bool,
 }
 
 // The number behind this one. It stays at the largest, which no stream reaches.
@@ -53,7 +58,7 @@ fn line_at(number: u64, reply: &[u8], out: &mut [u8], made: usize) -> usize
 // The lines of the whole replies at the start of these bytes, one after the other, while there is room for a line.
 fn lines(number: u64, bytes: &[u8], out: &mut [u8]) -> Lined
     ensures within { λ r. ⌜ (r .taken ≤ length (now (bytes .entry))) × (r .made ≤ length (now (out .exit))) ⌝ }
-    ensures lines { λ r. ⌜ Lines number (now (bytes .entry)) (r .next) (r .taken) (r .made) (now (out .exit)) ⌝ }
+    ensures lines { λ r. ⌜ Lines number (now (bytes .entry)) (r .next) (r .taken) (r .made) (now (out .entry)) (now (out .exit)) ⌝ }
     ensures all { λ r. ⌜ (r .made + 28457 ≤ length (now (out .exit)) → sizeOf (drop (r .taken) (now (bytes .entry))) ≡ 0) ⌝ }
 {
     let mut next = number;
@@ -72,38 +77,63 @@ fn lines(number: u64, bytes: &[u8], out: &mut [u8]) -> Lined
     Lined { next, taken, made }
 }
 
-// The last line, for `held` bytes at the end of the input that are no whole reply.
-fn finish(next: u64, held: usize, output: &mut [u8])
+// The end of the input: the last line, for the `held` bytes that are no whole reply, or none where nothing waits.
+fn last(next: u64, held: usize, output: &mut [u8]) -> After
     requires { ⌜ 28457 ≤ length (now output) ⌝ }
+    ensures { λ r. ⌜ Last next held (now (output .entry)) r (now (output .exit)) ⌝ }
 {
-    if held > 0 {
-        let made = replies::rest(next, held, output);
-        io::write_all(1, &output[..made]);
+    if held == 0 {
+        return stopped(next, held, false);
+    }
+    let made = replies::rest(next, held, output);
+    let wrote = io::write_all(1, &output[..made]);
+    After {
+        next,
+        held,
+        made,
+        more: false,
+        unread: false,
+        unwritten: !wrote,
     }
 }
 
-// One read behind the `held` bytes that wait, with room for one byte at least: none is read only at the end of the input, which ends the run.
+// The run ends with nothing written.
+fn stopped(next: u64, held: usize, unread: bool) -> After
+    ensures { λ r. ⌜ r ≡ stoppedAt next held unread ⌝ }
+{
+    After {
+        next,
+        held,
+        made: 0,
+        more: false,
+        unread,
+        unwritten: false,
+    }
+}
+
+// One read behind the `held` bytes that wait, with room for one byte at least: none is read at the end of the input, or where it can't be read, and either
+// ends the run.
 fn read_on(next: u64, held: usize, input: &mut [u8], output: &mut [u8]) -> After
     requires { ⌜ held < length (now input) ⌝ }
     requires { ⌜ 28457 ≤ length (now output) ⌝ }
-    ensures { λ r. ⌜ r .held ≤ length (now (input .exit)) ⌝ }
-    ensures kept { λ r. ⌜ (take held (now (input .exit)) ≡ take held (now (input .entry))) × (held ≤ r .held) × (r .next ≡ next) ⌝ }
+    ensures { λ r. ⌜ Fed next held (now (input .entry)) (now (output .entry)) r (now (input .exit)) (now (output .exit)) ⌝ }
 {
     let rest = &mut input[held..];
     let got = libc::read(0, rest);
     let n = io::count(got, rest);
+    if got < 0 {
+        return stopped(next, held, true);
+    }
     if n == 0 {
-        finish(next, held, output);
-        return After {
-            next,
-            held,
-            more: false,
-        };
+        return last(next, held, output);
     }
     After {
         next,
         held: held + n,
+        made: 0,
         more: true,
+        unread: false,
+        unwritten: false,
     }
 }
 
@@ -112,7 +142,7 @@ fn turn(next: u64, held: usize, input: &mut [u8], output: &mut [u8]) -> After
     requires { ⌜ held ≤ length (now input) ⌝ }
     requires { ⌜ (65539 ≤ length (now input)) × (28457 ≤ length (now output)) ⌝ }
     ensures { λ r. ⌜ r .held ≤ length (now (input .exit)) ⌝ }
-    ensures turned { λ r. ⌜ Turned next held (now (input .entry)) (r .next) (r .held) (now (input .exit)) (now (output .exit)) ⌝ }
+    ensures turned { λ r. ⌜ Turned next held (now (input .entry)) (now (output .entry)) r (now (input .exit)) (now (output .exit)) ⌝ }
 {
     let l = lines(next, &input[..held], output);
     let taken = l.taken;
@@ -125,25 +155,44 @@ fn turn(next: u64, held: usize, input: &mut [u8], output: &mut [u8]) -> After
     After {
         next: l.next,
         held: held - taken,
+        made,
         more,
+        unread: false,
+        unwritten: !more,
     }
 }
 
 // Turn after turn from the first reply. Nothing says that the input ends, so the turns are counted.
-fn run(input: &mut [u8], output: &mut [u8])
+fn run(input: &mut [u8], output: &mut [u8]) -> After
     requires { ⌜ (65539 ≤ length (now input)) × (28457 ≤ length (now output)) ⌝ }
+    ensures { λ r. ⌜ Shows (standing r (now (input .exit)) (now (output .exit))) ⌝ }
 {
-    let mut next: u64 = 1;
-    let mut held = 0;
+    let mut t = After {
+        next: 1,
+        held: 0,
+        made: 0,
+        more: true,
+        unread: false,
+        unwritten: false,
+    };
     let mut left: u64 = 18446744073709551615;
     while left > 0 {
-        let t = turn(next, held, input, output);
+        t = turn(t.next, t.held, input, output);
         if !t.more {
-            return;
+            return t;
         }
-        next = t.next;
-        held = t.held;
         left -= 1;
+    }
+    t
+}
+
+// What failed is named on standard error.
+fn finish(t: After) {
+    if t.unread {
+        io::write_all(2, b"show: standard input can't be read\n");
+    }
+    if t.unwritten {
+        io::write_all(2, b"show: standard output can't be written\n");
     }
 }
 
@@ -151,5 +200,6 @@ fn run(input: &mut [u8], output: &mut [u8])
 fn main() {
     let mut input = [0u8; INPUT];
     let mut output = [0u8; OUTPUT];
-    run(&mut input, &mut output);
+    let t = run(&mut input, &mut output);
+    finish(t);
 }

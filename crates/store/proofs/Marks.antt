@@ -20,7 +20,7 @@ use Rattle.paper.specs.declared.Mark.the-variants.{Unmarked, LongTerm}
 use Rattle.paper.proofs.Bools.{split}
 use Rattle.store.specs.Walks.{blank, anyAt, lowAt, passing, soughtFor}
 use Rattle.store.specs.Places.{front}
-use Rattle.store.specs.Runs.{wishAt, wishesAt, wishesIn, memberFor, membersAt, marking, longFound, longPlaces, allFound, allPlaces, usedAt, unusedAt, HoldsRuns, GoodRuns, usedIn, restIn, HoldsSets, Settles, Derives}
+use Rattle.store.specs.Runs.{wishAt, wishesAt, wishesIn, wishesWithin, memberFor, membersAt, marking, longFound, longPlaces, allFound, allPlaces, usedAt, unusedAt, HoldsRuns, GoodRuns, usedIn, restIn, HoldsSets, Settles, Derives}
 use Rattle.store.specs.declared.Sizes.{Sizes}
 use Rattle.store.specs.declared.setting.Runs.{Runs}
 use Rattle.store.specs.declared.setting.Settled.{Settled}
@@ -81,6 +81,14 @@ any-order false true false g l m = refl
 any-order false false true g l m = refl
 any-order false false false true l m = refl
 any-order false false false false l m = refl
+
+-- counts that sixteen places have room for are themselves
+pub within-room : (ps : List ℤ) (hs : List ℕ) (a b c : ℕ) → a + b + c ≤ 16 → wishesWithin ps hs a b c ≡ wishesIn ps hs a b c
+within-room ps hs a b c room =
+    let n : min a 16 ≡ a = omega arith in
+    let p : min b (16 - min a 16) ≡ b = omega arith in
+    let q : min c (16 - min a 16 - min b (16 - min a 16)) ≡ c = omega arith in
+    λ i. wishesIn ps hs (n i) (p i) (q i)
 
 -- ---- step 4 on places
 

@@ -1,5 +1,5 @@
 -- Wishes, what each finds, and the sets in two runs.
-use Prim.Native.Nat.{ℕ, zero, suc, _+_, _≤_}
+use Prim.Native.Nat.{ℕ, zero, suc, _+_, _-_, _≤_, min}
 use mathlib.Core.Path.{_≡_}
 use mathlib.Core.Bool.{Bool, true, false, cond, not}
 use mathlib.Core.List.{List, [], _∷_, _++_}
@@ -33,6 +33,10 @@ wishesAt ps hs from n = table (λ (i : ℕ). wishAt ps hs (from + i)) n
 -- neg, then pos, then lt
 abbrev pub wishesIn : List ℤ → List ℕ → ℕ → ℕ → ℕ → Wishes
 wishesIn ps hs a b c = record { neg = wishesAt ps hs 0 a; pos = wishesAt ps hs a b; lt = wishesAt ps hs (a + b) c }
+
+-- as `wishesIn`, from sixteen places: a count over those that are left counts as those
+abbrev pub wishesWithin : List ℤ → List ℕ → ℕ → ℕ → ℕ → Wishes
+wishesWithin ps hs a b c = let n = min a 16 in let p = min b (16 - n) in wishesIn ps hs n p (min c (16 - n - p))
 
 -- ---- a walk over places
 

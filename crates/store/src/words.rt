@@ -16,7 +16,7 @@ ghost use Rattle.store.specs.Walks.{blank, changeBy, unmarkIf};
 ghost use Rattle.store.specs.Shelf.{flagOf, flagWord, markOf, markWord, pictureAt, pictures, stored, countIn, Puts, Tidy, NormalForm};
 ghost use Rattle.store.specs.Places.{front, storedIn, roomy, roomOf, numberOfRoom};
 ghost use Rattle.store.specs.Bumps.{Leaves};
-ghost use Rattle.store.specs.Runs.{wishesIn, Derives};
+ghost use Rattle.store.specs.Runs.{wishesWithin, Derives};
 use crate::Derived;
 use crate::Moved;
 use crate::Room;
@@ -29,6 +29,7 @@ use crate::pictures::passes;
 use crate::pictures::read_as;
 use crate::searching::used_in;
 use crate::setting;
+use derivation::fewer;
 use paper::Current;
 use paper::Limits;
 use paper::Mark;
@@ -265,7 +266,7 @@ fn unmarking(over: bool) -> Change
 }
 
 // Step 4 of begin (8.3.2) on the store that the words hold, which stay: the store with its marks, and the sets. The wishes are neg, pos and
-// lt ones, one behind the other.
+// lt ones, one behind the other; a count over the places that are left counts as those.
 pub fn derive_and_mark_rps(
     t: &[u32; Store::WORDS],
     k: u8,
@@ -276,10 +277,12 @@ pub fn derive_and_mark_rps(
     pos: usize,
     lt: usize,
 ) -> Derived
-    requires { ⌜ neg + pos + lt ≤ 16 ⌝ }
-    ensures { λ r. ⌜ Derives (2 ^ (min k 16)) (unmarkedIf over (stored (now (t .entry)))) (wishesIn (now (pocs .entry)) (now (hows .entry)) neg pos lt) r ⌝ }
+    ensures { λ r. ⌜ Derives (2 ^ (min k 16)) (unmarkedIf over (stored (now (t .entry)))) (wishesWithin (now (pocs .entry)) (now (hows .entry)) neg pos lt) r ⌝ }
 {
-    setting::derive_and_mark_rps(load(t, unmarking(over)), k, pocs, hows, neg, pos, lt)
+    let n = fewer(neg, Store::CAPACITY);
+    let p = fewer(pos, Store::CAPACITY - n);
+    let q = fewer(lt, Store::CAPACITY - n - p);
+    setting::derive_and_mark_rps(load(t, unmarking(over)), k, pocs, hows, n, p, q)
 }
 
 // Step 5 of begin (C.5.2.2) on a store, which the words then hold.

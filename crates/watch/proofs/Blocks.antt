@@ -1,22 +1,23 @@
 -- Block after block: what is heard of one block and then of the next is what `watched` finds in both, one behind the other.
 use Prim.Native.Nat.{ℕ, _+_, _≤_}
-use mathlib.Core.Path.{_≡_, refl, sym, ap, _∙_}
+use mathlib.Core.Path.{_≡_, refl, sym, ap, subst, _∙_}
 use mathlib.Core.Bool.{true}
 use mathlib.Core.List.{List, [], _∷_, _++_}
 use native.Mathlib.Omega.{arith}
-use lib.ListN.{length}
+use lib.ListN.{length, take}
 use lib.Dec.{eqb}
+use borrow.Author.Tests.{eqb-true, eqb-false}
 use Rattle.paper.specs.Words.{first}
 use Rattle.paper.specs.Replies.{Reply}
-use Rattle.paper.specs.Ledger.{Ledger, blank, tell, hear, readReply}
+use Rattle.paper.specs.Ledger.{Ledger, tell, hear, readReply}
 use Rattle.paper.specs.Watch.{Verdict, replyPart, partOf, watched}
 use Rattle.paper.proofs.Bools.{split}
+use Rattle.watch.specs.declared.Tally.{Tally}
 use Rattle.watch.specs.declared.Book.{Book}
 use Rattle.watch.specs.declared.pairing.Paired.{Paired}
-use Rattle.watch.specs.Book.{bookIn, HoldsBook, noTally}
-use Rattle.watch.specs.Pairs.{IsLedger, Watches}
-use Rattle.watch.proofs.Determined.{whole-view}
-use Rattle.watch.proofs.Exchanges.{inOrder, part-order, held-order, current-order, begun-order, same-book, watched-more}
+use Rattle.watch.specs.Book.{Holds, bookIn, HoldsBook}
+use Rattle.watch.specs.Pairs.{tallyAll, Watches}
+use Rattle.watch.proofs.Exchanges.{inOrder, part-order, held-order, current-order, begun-order, is-ledger, same-book, watched-more}
 
 same-order : (L K : Ledger) → inOrder L ≡ inOrder K → (r a : List ℕ) → partOf L r a ≡ partOf K r a
 unfolding partOf first
@@ -52,16 +53,27 @@ alike n m L K e (r ∷ rs) (a ∷ answers) =
     rw (d, t) (record { part = h .part; at = k; ledger = h .ledger }))
     (λ t. rw (d, t) (record { part = refl; at = omega arith; ledger = e }))
 
+-- a book in normal form is also this ledger
+same-normal : {k : Book} {t u : Tally} (L K : Ledger) → inOrder L ≡ inOrder K → t ≡ u → HoldsBook k L t → HoldsBook k K u
+same-normal {k} L K e f h =
+    record {
+      held = subst (Holds (k .held)) (ap (λ (M : Ledger). M .held) e) (h .held);
+      few = h .few;
+      current = h .current ∙ ap (λ (M : Ledger). M .current) e;
+      begun = h .begun ∙ ap (λ (M : Ledger). M .begun) e;
+      tally = h .tally ∙ f;
+    }
+
 -- some exchanges that break nothing, the book after them, and what is heard from that book on
-module _ {b : Book} {records replies : List ℕ} {q : Paired} (L : Ledger) (said answers : List (List ℕ)) (z : watched 0 L said answers .part ≡ 0)
-    (l : IsLedger b (watched 0 L said answers .ledger)) (h : Watches b records replies q) where
+module _ {b : Book} {t : Tally} {records replies : List ℕ} {q : Paired} (L : Ledger) (said answers : List (List ℕ)) (z : watched 0 L said answers .part ≡ 0)
+    (l : HoldsBook b (watched 0 L said answers .ledger) t) (h : Watches b records replies q) where
   abbrev pub both-said : Verdict
   both-said = watched 0 L (said ++ h .said) (answers ++ h .answers)
 
   joins : Alike 0 (watched 0 L said answers .at) (watched 0 (bookIn b) (h .said) (h .answers)) both-said
   joins =
       let v = watched 0 L said answers in
-      rw (watched-more 0 L said answers (h .said) (h .answers) z) (alike 0 (v .at) (bookIn b) (v .ledger) (same-book l) (h .said) (h .answers))
+      rw (watched-more 0 L said answers (h .said) (h .answers) z) (alike 0 (v .at) (bookIn b) (v .ledger) (same-book (is-ledger l)) (h .said) (h .answers))
 
   pub next-block : q .part ≡ both-said .part
   next-block = h .part ∙ joins .part
@@ -69,18 +81,20 @@ module _ {b : Book} {records replies : List ℕ} {q : Paired} (L : Ledger) (said
   pub next-place : watched 0 L said answers .at + q .pairs ≡ both-said .at
   next-place = omega (arith, joins .at, h .pairs)
 
-  pub next-book : IsLedger (q .book) (both-said .ledger)
-  next-book =
-      let e = joins .ledger in
-      record {
-        held = h .ledger .held ∙ ap (λ (K : Ledger). K .held) e;
-        current = h .ledger .current ∙ ap (λ (K : Ledger). K .current) e;
-        begun = h .ledger .begun ∙ ap (λ (K : Ledger). K .begun) e;
-      }
+  -- no exchange went into the book
+  none-more : q .pairs ≡ 0 → inOrder (watched 0 L said answers .ledger) ≡ inOrder (both-said .ledger)
+  none-more n = sym (same-book (is-ledger l)) ∙ ap bookIn (sym (h .same n)) ∙ same-book (h .ledger) ∙ joins .ledger
 
--- a new book is the blank ledger
-pub from-new : {b : Book} → HoldsBook b blank noTally → IsLedger b blank
-from-new h = record { held = whole-view h; current = h .current; begun = h .begun }
+  pub next-book : HoldsBook (q .book) (both-said .ledger) (tallyAll t (take (q .pairs) (h .answers)))
+  next-book =
+      let u : tallyAll (b .tally) (take (q .pairs) (h .answers)) ≡ tallyAll t (take (q .pairs) (h .answers)) = ap (λ (x : Tally). tallyAll x (take (q .pairs) (h .answers))) (l .tally) in
+      split (eqb (q .pairs) 0)
+      (λ e.
+      let n = eqb-true (q .pairs) 0 e in
+      let s = h .same n in
+      let v = same-normal (watched 0 L said answers .ledger) (both-said .ledger) (none-more n) (sym (l .tally) ∙ sym (ap (λ (x : Book). x .tally) s) ∙ h .tally ∙ u) l in
+      subst (λ (x : Book). HoldsBook x (both-said .ledger) (tallyAll t (take (q .pairs) (h .answers)))) (sym s) v)
+      (λ e. let n = eqb-false (q .pairs) 0 e in same-normal (watched 0 (bookIn b) (h .said) (h .answers) .ledger) (both-said .ledger) (joins .ledger) u (h .normal (omega (arith, n))))
 
 -- what stands behind an exchange that breaks a part changes nothing
 pub watched-broken : (n : ℕ) (L : Ledger) (rs answers qs bs : List (List ℕ)) → length rs ≡ length answers → (watched n L rs answers .part ≡ 0 → ⊥)

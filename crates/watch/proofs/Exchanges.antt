@@ -1,11 +1,11 @@
 -- Exchange after exchange: one more is heard as `watched` hears it.
-use Prim.Native.Nat.{ℕ, suc, _+_, _-_, _≤_, _<_}
-use mathlib.Core.Path.{_≡_, refl, sym, ap, subst, _∙_}
+use Prim.Native.Nat.{ℕ, suc, _+_, _-_, _<_}
+use mathlib.Core.Path.{_≡_, refl, sym, ap, subst, subst₂, _∙_}
 use mathlib.Core.Bool.{true}
 use mathlib.Core.List.{List, [], _∷_, _++_, append-nil}
 use native.Mathlib.Omega.{arith}
 use lib.ListN.{length, take, drop, length-append}
-use lib.Seq.{take-add, take-at, take-all}
+use lib.Seq.{take-add, take-append-le, take-all}
 use lib.Dec.{eqb}
 use borrow.Author.Tests.{eqb-false, ne-eqb}
 use Rattle.paper.specs.Words.{allB, first}
@@ -16,7 +16,7 @@ use Rattle.paper.proofs.Bools.{split, both}
 use Rattle.watch.specs.declared.Tally.{Tally}
 use Rattle.watch.specs.declared.Book.{Book}
 use Rattle.watch.specs.declared.Heard.{Heard}
-use Rattle.watch.specs.Book.{bookIn, HoldsBook, tallied}
+use Rattle.watch.specs.Book.{Holds, bookIn, HoldsBook, tallied}
 use Rattle.watch.specs.Hears.{Hears}
 use Rattle.framing.specs.Cut.{sizeOf, isWhole, joined}
 use Rattle.watch.specs.Pairs.{tallyAll, IsLedger, Watches}
@@ -57,6 +57,10 @@ begun-order L r (Reply.Done kind t) = split (eqb kind 7) (λ e. rw e) (λ e. spl
 begun-order L r (Reply.Started b t) = refl
 begun-order L r (Reply.Listed l0 l1) = refl
 
+-- a book in normal form is its ledger
+pub is-ledger : {b : Book} {L : Ledger} {t : Tally} → HoldsBook b L t → IsLedger b L
+is-ledger h = record { held = whole-view h; current = h .current; begun = h .begun }
+
 module _ {b : Book} {L : Ledger} (h : IsLedger b L) where
   pub same-book : bookIn b ≡ inOrder L
   same-book = λ i. record { held = h .held i; current = h .current i; begun = h .begun i; ok = true }
@@ -65,12 +69,14 @@ module _ {b : Book} {L : Ledger} (h : IsLedger b L) where
   unfolding partOf first
   same-part r a = let e : replyPart (bookIn b) r (readReply a) ≡ replyPart L r (readReply a) = ap (λ (K : Ledger). replyPart K r (readReply a)) same-book ∙ part-order L r (readReply a) in rw e
 
-  pub next-ledger : {k : Book} {t : Tally} (r : List ℕ) (x : Reply) → HoldsBook k (hear (bookIn b) r x) t → IsLedger k (hear L r x)
-  next-ledger r x g =
+  pub next-normal : {k : Book} {t : Tally} (r : List ℕ) (x : Reply) → HoldsBook k (hear (bookIn b) r x) t → HoldsBook k (hear L r x) t
+  next-normal {k} r x g =
       record {
-        held = whole-view g ∙ ap (λ (K : Ledger). tell K r x .held) same-book ∙ held-order L r x;
+        held = subst (Holds (k .held)) (ap (λ (K : Ledger). tell K r x .held) same-book ∙ held-order L r x) (g .held);
+        few = g .few;
         current = g .current ∙ ap (λ (K : Ledger). tell K r x .current) same-book ∙ current-order L r x;
         begun = g .begun ∙ ap (λ (K : Ledger). tell K r x .begun) same-book ∙ begun-order L r x;
+        tally = g .tally;
       }
 
 -- ---- one exchange more
@@ -147,6 +153,9 @@ nothing-heard b records replies =
       pairs = refl;
       ledger = record { held = refl; current = refl; begun = refl };
       tally = refl;
+      same = λ _. refl;
+      normal = λ h. absurd (omega arith);
+      last = λ z. absurd (z refl);
     }
 
 module _ {b k : Book} {records replies : List ℕ} (taken answered pairs n m : ℕ) (h : 0 < n) (e : n ≡ sizeOf (drop taken records)) (i : 0 < m) (f : m ≡ sizeOf (drop answered replies))
@@ -201,7 +210,7 @@ module _ {b k : Book} {records replies : List ℕ} (taken answered pairs n m : �
   counts : k .tally ≡ tallyAll (b .tally) (g .answers)
   counts = g .tally ∙ ap (tallyAll (b .tally)) (take-all pairs (g .answers) (let e = all in omega arith))
 
-  one-longer : length (g .answers ++ (ans ∷ [])) ≤ pairs + 1
+  one-longer : length (g .answers ++ (ans ∷ [])) ≡ pairs + 1
   one-longer = let e = all in let n = length-append (g .answers) (ans ∷ []) in omega arith
 
   pub heard-wrong : (x .part ≡ 0 → ⊥) → Watches b records replies (record { book = k; taken = taken + n; answered = answered + m; pairs = pairs; part = x .part })
@@ -209,6 +218,8 @@ module _ {b k : Book} {records replies : List ℕ} (taken answered pairs n m : �
   heard-wrong z =
       let w : partOf (before .ledger) rec ans ≡ 0 → ⊥ = λ y. z (its-part ∙ y) in
       let v = goes-on ∙ one-wrong (before .at) (before .ledger) rec ans w in
+      let l = sym (ap (λ (y : Verdict). y .ledger) v) in
+      let t = ap (tallyAll (b .tally)) (sym (take-append-le pairs (g .answers) (ans ∷ []) (let y = all in omega arith))) in
       record {
         said = g .said ++ (rec ∷ []);
         answers = g .answers ++ (ans ∷ []);
@@ -219,8 +230,11 @@ module _ {b k : Book} {records replies : List ℕ} (taken answered pairs n m : �
         cut-answers = answers-cut;
         part = its-part ∙ sym (ap (λ (y : Verdict). y .part) v);
         pairs = g .pairs ∙ sym (ap (λ (y : Verdict). y .at) v);
-        ledger = subst (λ (K : Ledger). IsLedger k K) (sym (ap (λ (y : Verdict). y .ledger) v)) (g .ledger);
-        tally = counts ∙ ap (tallyAll (b .tally)) (sym (take-at (g .answers) (ans ∷ []) pairs (sym all)));
+        ledger = subst (IsLedger k) l (g .ledger);
+        tally = g .tally ∙ t;
+        same = g .same;
+        normal = λ y. subst₂ (HoldsBook k) l t (g .normal y);
+        last = λ _. evenly ∙ one-longer;
       }
 
   pub heard-right : x .part ≡ 0 → Watches b records replies (record { book = x .book; taken = taken + n; answered = answered + m; pairs = pairs + 1; part = 0 })
@@ -228,7 +242,11 @@ module _ {b k : Book} {records replies : List ℕ} (taken answered pairs n m : �
   heard-right z =
       let w : partOf (before .ledger) rec ans ≡ 0 = sym its-part ∙ z in
       let v = goes-on ∙ one-right (before .at) (before .ledger) rec ans w in
-      let y = now-hears .kept (sym (now-hears .part) ∙ z) in
+      let t : tallied (k .tally) (readReply ans) ≡ tallyAll (b .tally) (take (pairs + 1) (g .answers ++ (ans ∷ []))) =
+      ap (λ (u : Tally). tallied u (readReply ans)) counts
+      ∙ sym (tally-more (b .tally) (g .answers) ans)
+      ∙ ap (tallyAll (b .tally)) (sym (take-all (pairs + 1) (g .answers ++ (ans ∷ [])) (let u = one-longer in omega arith))) in
+      let y = subst₂ (HoldsBook (x .book)) (sym (ap (λ (u : Verdict). u .ledger) v)) t (next-normal (g .ledger) rec (readReply ans) (now-hears .kept (sym (now-hears .part) ∙ z))) in
       record {
         said = g .said ++ (rec ∷ []);
         answers = g .answers ++ (ans ∷ []);
@@ -239,10 +257,9 @@ module _ {b k : Book} {records replies : List ℕ} (taken answered pairs n m : �
         cut-answers = answers-cut;
         part = sym (ap (λ (u : Verdict). u .part) v);
         pairs = ap (λ (u : ℕ). u + 1) (g .pairs) ∙ sym (ap (λ (u : Verdict). u .at) v);
-        ledger = subst (λ (K : Ledger). IsLedger (x .book) K) (sym (ap (λ (u : Verdict). u .ledger) v)) (next-ledger (g .ledger) rec (readReply ans) y);
-        tally =
-            y .tally
-            ∙ ap (λ (t : Tally). tallied t (readReply ans)) counts
-            ∙ sym (tally-more (b .tally) (g .answers) ans)
-            ∙ ap (tallyAll (b .tally)) (sym (take-all (pairs + 1) (g .answers ++ (ans ∷ [])) one-longer));
+        ledger = is-ledger y;
+        tally = y .tally;
+        same = λ u. absurd (omega arith);
+        normal = λ _. y;
+        last = λ u. absurd (u refl);
       }

@@ -1,11 +1,11 @@
 -- What `hear_all` finds is a function of the bytes: heads leave one way to cut them, and each whole record goes with its whole reply as far as both go.
-use Prim.Native.Nat.{ℕ, _+_, _≤_, min}
-use mathlib.Core.Path.{_≡_, refl, sym, ap, ap₂, _∙_}
-use mathlib.Core.Bool.{true, _||_}
+use Prim.Native.Nat.{ℕ, _+_, _≤_, _<_, min}
+use mathlib.Core.Path.{_≡_, refl, sym, ap, ap₂, subst, subst₂, _∙_}
+use mathlib.Core.Bool.{true, cond, _||_}
 use mathlib.Core.List.{List, [], _∷_, _++_, append-nil}
 use native.Mathlib.Omega.{arith}
 use lib.ListN.{length, take, drop, length-append, length-take, take-append-drop}
-use lib.Seq.{take-append-add, take-append-le, length-take-le}
+use lib.Seq.{take-at, take-append-add, take-append-le, length-take-le}
 use lib.Dec.{eqb}
 use borrow.Author.Tests.{eqb-true, eqb-false}
 use Rattle.paper.specs.Words.{allB}
@@ -16,8 +16,10 @@ use Rattle.framing.specs.Cut.{Parts, sizeOf, joined, isWhole, cut}
 use Rattle.framing.proofs.Cutting.{front-cut, parts-none}
 use Rattle.watch.specs.declared.Book.{Book}
 use Rattle.watch.specs.declared.pairing.Paired.{Paired}
-use Rattle.watch.specs.Book.{bookIn}
+use Rattle.watch.specs.Book.{bookIn, HoldsBook}
 use Rattle.watch.specs.Pairs.{tallyAll, Watches, WatchesAll}
+use Rattle.watch.proofs.Determined.{one-book}
+use Rattle.watch.proofs.Exchanges.{watched-even}
 use Rattle.watch.proofs.Blocks.{watched-broken, watched-within}
 
 pub length-none : {A : Type 0} (l : List A) → length l ≡ 0 → l ≡ []
@@ -65,18 +67,15 @@ cut-behind : (file : List ℕ) (n : ℕ) (said : List (List ℕ)) → allB isWho
 cut-behind file n said w e =
     ap cut (sym (take-append-drop n file) ∙ ap (λ (l : List ℕ). l ++ drop n file) e) ∙ ap (λ (p : Parts). p .whole) (front-cut said (drop n file) w)
 
--- where no more goes with the other file, the bytes taken are those of as many as both have
-taken-is : (n m : ℕ) (file other : List ℕ) (said answers : List (List ℕ)) → n ≤ length file → allB isWhole said ≡ true → allB isWhole answers ≡ true → take n file ≡ joined said
-    → take m other ≡ joined answers → length said ≡ length answers → min (length (cut (drop n file))) (length (cut (drop m other))) ≡ 0 → n ≡ length (joined (take (length (cut other)) (cut file)))
-taken-is n m file other said answers h a b c d e z =
-    let x = cut (drop n file) in
-    let y = cut (drop m other) in
-    let s : take (length (cut other)) (cut file) ≡ said =
-    ap₂ (λ (l k : List (List ℕ)). take (length l) k) (cut-behind other m answers b d) (cut-behind file n said a c)
-    ∙ both-front said x answers y e
-    ∙ ap (λ (l : List (List ℕ)). said ++ l) (none-left x (length y) z)
-    ∙ append-nil said in
-    sym (length-take-le n file h) ∙ ap length (c ∙ ap joined (sym s))
+-- the bytes taken are those of as many as were taken
+taken-is : (n : ℕ) (file : List ℕ) (said : List (List ℕ)) → n ≤ length file → allB isWhole said ≡ true → take n file ≡ joined said → n ≡ length (joined (take (length said) (cut file)))
+taken-is n file said h w e =
+    let s : take (length said) (cut file) ≡ said = ap (take (length said)) (cut-behind file n said w e) ∙ take-at said (cut (drop n file)) (length said) refl in
+    sym (length-take-le n file h) ∙ ap length (e ∙ ap joined (sym s))
+
+-- as many are taken as go into the book, and one more where it breaks a part
+abbrev many : ℕ → ℕ → ℕ
+many pairs part = pairs + cond (eqb part 0) 0 1
 
 module _ {b : Book} {records replies : List ℕ} {p : Paired} (g : WatchesAll b records replies p) where
   abbrev heard : Watches b records replies p
@@ -95,49 +94,46 @@ module _ {b : Book} {records replies : List ℕ} {p : Paired} (g : WatchesAll b 
       (λ e. sym (c ∙ far-last (bookIn b) (heard .said) (heard .answers) (heard .even) (cut x) (cut y) (no-more x y (g .rest (eqb-true (p .part) 0 e)))))
       (λ e. sym (c ∙ far-broken (bookIn b) (heard .said) (heard .answers) (heard .even) (cut x) (cut y) (λ z. eqb-false (p .part) 0 e (heard .part ∙ z))))
 
-  pub heard-tally : p .book .tally ≡ tallyAll (b .tally) (take (p .pairs) (cut replies))
-  heard-tally =
+  -- where some go into the book, it is in normal form
+  heard-normal : 0 < p .pairs → HoldsBook (p .book) (found .ledger) (tallyAll (b .tally) (take (p .pairs) (cut replies)))
+  heard-normal h =
       let k = watched-within 0 (bookIn b) (heard .said) (heard .answers) in
       let y = cut (drop (p .answered) replies) in
-      heard .tally
-      ∙ ap (tallyAll (b .tally))
-      (sym (take-append-le (p .pairs) (heard .answers) y (omega (arith, heard .pairs))) ∙ ap (take (p .pairs)) (sym (cut-behind replies (p .answered) (heard .answers) (heard .whole-answers) (heard .cut-answers))))
+      subst₂
+      (HoldsBook (p .book))
+      (ap (λ (w : Verdict). w .ledger) heard-far)
+      (ap (tallyAll (b .tally))
+      (sym (take-append-le (p .pairs) (heard .answers) y (omega (arith, heard .pairs))) ∙ ap (take (p .pairs)) (sym (cut-behind replies (p .answered) (heard .answers) (heard .whole-answers) (heard .cut-answers)))))
+      (heard .normal h)
 
-  module _ (z : p .part ≡ 0) where
-    none-more : min (length (cut (drop (p .taken) records))) (length (cut (drop (p .answered) replies))) ≡ 0
-    none-more = no-more (drop (p .taken) records) (drop (p .answered) replies) (g .rest z)
+  heard-many : length (heard .said) ≡ many (p .pairs) (p .part)
+  heard-many =
+      split (eqb (p .part) 0)
+      (λ e.
+      let k = watched-even 0 (bookIn b) (heard .said) (heard .answers) (sym (heard .part) ∙ eqb-true (p .part) 0 e) in
+      rw e (omega (arith, k .0, k .1, heard .pairs)))
+      (λ e. rw e (heard .last (eqb-false (p .part) 0 e)))
 
-    pub heard-taken : p .taken ≡ length (joined (take (length (cut replies)) (cut records)))
-    heard-taken =
-        taken-is (p .taken) (p .answered) records replies (heard .said) (heard .answers) (g .taken) (heard .whole-said) (heard .whole-answers) (heard .cut-said) (heard .cut-answers) (heard .even) none-more
+  heard-taken : p .taken ≡ length (joined (take (many (p .pairs) (p .part)) (cut records)))
+  heard-taken = taken-is (p .taken) records (heard .said) (g .taken) (heard .whole-said) (heard .cut-said) ∙ ap (λ (n : ℕ). length (joined (take n (cut records)))) heard-many
 
-    pub heard-answered : p .answered ≡ length (joined (take (length (cut records)) (cut replies)))
-    heard-answered =
-        let m = none-more in
-        taken-is (p .answered) (p .taken) replies records (heard .answers) (heard .said) (g .answered) (heard .whole-answers) (heard .whole-said) (heard .cut-answers) (heard .cut-said) (sym (heard .even)) (omega arith)
+  heard-answered : p .answered ≡ length (joined (take (many (p .pairs) (p .part)) (cut replies)))
+  heard-answered =
+      taken-is (p .answered) replies (heard .answers) (g .answered) (heard .whole-answers) (heard .cut-answers) ∙ ap (λ (n : ℕ). length (joined (take n (cut replies)))) (sym (heard .even) ∙ heard-many)
 
--- any two results that the contract permits have one part, one number of exchanges, one ledger and one tally; where no part is broken they take the same
-pub record SameHearing (p q : Paired) : Type 0 where
-  pub part : p .part ≡ q .part
-  pub pairs : p .pairs ≡ q .pairs
-  pub book : bookIn (p .book) ≡ bookIn (q .book)
-  pub tally : p .book .tally ≡ q .book .tally
-  pub taken : p .part ≡ 0 → (p .taken ≡ q .taken) × (p .answered ≡ q .answered)
-
-pub one-hearing : {b : Book} {records replies : List ℕ} {p q : Paired} → WatchesAll b records replies p → WatchesAll b records replies q → SameHearing p q
+-- ANY TWO RESULTS THAT THE CONTRACT PERMITS ARE EQUAL
+pub one-hearing : {b : Book} {records replies : List ℕ} {p q : Paired} → WatchesAll b records replies p → WatchesAll b records replies q → p ≡ q
 one-hearing {b} {records} {replies} {p} {q} g h =
     let v = heard-far g ∙ sym (heard-far h) in
     let n = g .watches .pairs ∙ ap (λ (w : Verdict). w .at) v ∙ sym (h .watches .pairs) in
-    let x = g .watches .ledger in
-    let y = h .watches .ledger in
-    let a = x .held ∙ ap (λ (w : Verdict). w .ledger .held) v ∙ sym (y .held) in
-    let c = x .current ∙ ap (λ (w : Verdict). w .ledger .current) v ∙ sym (y .current) in
-    let d = x .begun ∙ ap (λ (w : Verdict). w .ledger .begun) v ∙ sym (y .begun) in
     let e = g .watches .part ∙ ap (λ (w : Verdict). w .part) v ∙ sym (h .watches .part) in
-    record {
-      part = e;
-      pairs = n;
-      book = λ i. record { held = a i; current = c i; begun = d i; ok = true };
-      tally = heard-tally g ∙ ap (λ (m : ℕ). tallyAll (b .tally) (take m (cut replies))) n ∙ sym (heard-tally h);
-      taken = λ z. (heard-taken g z ∙ sym (heard-taken h (sym e ∙ z)), heard-answered g z ∙ sym (heard-answered h (sym e ∙ z)));
-    }
+    let l = ap₂ many n e in
+    let t = heard-taken g ∙ ap (λ (m : ℕ). length (joined (take m (cut records)))) l ∙ sym (heard-taken h) in
+    let a = heard-answered g ∙ ap (λ (m : ℕ). length (joined (take m (cut replies)))) l ∙ sym (heard-answered h) in
+    let k : p .book ≡ q .book =
+    split (eqb (p .pairs) 0)
+    (λ y. let z = eqb-true (p .pairs) 0 y in g .watches .same z ∙ sym (h .watches .same (sym n ∙ z)))
+    (λ y.
+    let z = eqb-false (p .pairs) 0 y in
+    one-book (subst (λ (m : ℕ). HoldsBook (p .book) (asFar (bookIn b) (cut records) (cut replies) .ledger) (tallyAll (b .tally) (take m (cut replies)))) n (heard-normal g (omega arith))) (heard-normal h (omega arith))) in
+    λ i. record { book = k i; taken = t i; answered = a i; pairs = n i; part = e i }

@@ -1,5 +1,5 @@
 -- Exchanges in two runs of bytes: each whole record with the next whole reply.
-use Prim.Native.Nat.{ℕ, _≤_}
+use Prim.Native.Nat.{ℕ, _+_, _≤_, _<_}
 use mathlib.Core.Path.{_≡_}
 use mathlib.Core.List.{List, [], _∷_}
 use mathlib.Core.Bool.{true, _||_}
@@ -9,7 +9,7 @@ use Rattle.paper.specs.Words.{allB}
 use Rattle.framing.specs.Cut.{sizeOf, isWhole, joined}
 use Rattle.paper.specs.Ledger.{Ledger, readReply}
 use Rattle.paper.specs.Watch.{watched}
-use Rattle.watch.specs.Book.{bookIn, tallied}
+use Rattle.watch.specs.Book.{bookIn, HoldsBook, tallied}
 use Rattle.watch.specs.declared.Tally.{Tally}
 use Rattle.watch.specs.declared.Book.{Book}
 use Rattle.watch.specs.declared.pairing.Paired.{Paired}
@@ -41,8 +41,14 @@ pub record Watches (b : Book) (records replies : List ℕ) (p : Paired) : Type 0
   pub cut-answers : take (p .answered) replies ≡ joined answers
   pub part : p .part ≡ watched 0 (bookIn b) said answers .part
   pub pairs : p .pairs ≡ watched 0 (bookIn b) said answers .at
+  -- the exchange that breaks a part is the last one that is taken
+  pub last : (p .part ≡ 0 → ⊥) → length said ≡ p .pairs + 1
   pub ledger : IsLedger (p .book) (watched 0 (bookIn b) said answers .ledger)
   pub tally : p .book .tally ≡ tallyAll (b .tally) (take (p .pairs) answers)
+  -- where no exchange goes into the book, it is the one that came
+  pub same : p .pairs ≡ 0 → p .book ≡ b
+  -- where some do, it is in normal form
+  pub normal : 0 < p .pairs → HoldsBook (p .book) (watched 0 (bookIn b) said answers .ledger) (tallyAll (b .tally) (take (p .pairs) answers))
 
 -- and where no part is broken, no whole record or no whole reply is left
 pub record WatchesAll (b : Book) (records replies : List ℕ) (p : Paired) : Type 0 where

@@ -1,6 +1,6 @@
 // "All numbers little-endian": numbers read from and written to lent bytes.
 ghost use mathlib.Core.Path.{_≡_};
-ghost use Prim.Native.Nat.{_+_, _*_, _≤_, _<_};
+ghost use Prim.Native.Nat.{_+_, _-_, _*_, _≤_};
 ghost use lib.ListN.{length};
 ghost use lib.Seq.{sets};
 ghost use mathlib.Core.List.{[], _∷_};
@@ -29,26 +29,36 @@ fn whole(lo: u16, hi: u16) -> u32
     (lo as u32) + 65536 * (hi as u32)
 }
 
+// How many bytes there are from a place on.
+fn left(s: &[u8], at: usize) -> usize
+    ensures { λ r. ⌜ r ≡ length (now (s .entry)) - at ⌝ }
+{
+    let n = s.len();
+    if at < n { n - at } else { 0 }
+}
+
 // The u16 at a place. One test is enough where both bytes are there.
 pub fn u16_at(s: &[u8], at: usize) -> u16
-    requires { ⌜ at < 1000002 ⌝ }
     ensures { λ r. ⌜ r ≡ u16 (now (s .entry)) at ⌝ }
 {
-    if at + 2 <= s.len() {
+    if 2 <= left(s, at) {
         return half(s[at], s[at + 1]);
     }
-    half(byte(s, at), byte(s, at + 1))
+    half(byte(s, at), 0)
 }
 
 // The u32 at a place. One test is enough where all four bytes are there.
 pub fn u32_at(s: &[u8], at: usize) -> u32
-    requires { ⌜ at < 1000000 ⌝ }
     ensures { λ r. ⌜ r ≡ u32 (now (s .entry)) at ⌝ }
 {
-    if at + 4 <= s.len() {
+    let n = left(s, at);
+    if 4 <= n {
         return whole(half(s[at], s[at + 1]), half(s[at + 2], s[at + 2 + 1]));
     }
-    whole(u16_at(s, at), u16_at(s, at + 2))
+    if 2 < n {
+        return whole(u16_at(s, at), u16_at(s, at + 2));
+    }
+    whole(u16_at(s, at), 0)
 }
 
 // The number whose two's complement these 32 bits are.
@@ -75,7 +85,6 @@ pub fn bits(x: i32) -> u32
 
 // The i32 at a place.
 pub fn i32_at(s: &[u8], at: usize) -> i32
-    requires { ⌜ at < 1000000 ⌝ }
     ensures { λ r. ⌜ r ≡ i32 (now (s .entry)) at ⌝ }
 {
     signed(u32_at(s, at))

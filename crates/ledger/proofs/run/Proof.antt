@@ -1,18 +1,20 @@
--- What was read so far is judged so far, and the turns that are left fall.
+-- Some turns led here from a new book, and the turns that are left fall.
 use borrow.Author.Needs.{needs}
 use native.Mathlib.Omega.{arith}
 use Prim.Native.Nat.{_≤_}
-use mathlib.Core.Path.{_≡_, refl, _∙_}
+use mathlib.Core.Path.{_≡_, refl}
 use mathlib.Core.Bool.{true}
 use lib.ListN.{length}
 use mir.Facts.{toZ-ofZ}
 use Rattle.paper.proofs.Ways.{yes-of}
-use Rattle.ledger.proofs.Running.{Reading, nothing-read, reads-on, comes-to-end, not-ended}
+use Rattle.framing.proofs.Running.{Reached, starts, one-turn}
+use Rattle.ledger.specs.Turns.{Starts, Turning, standing}
+use Rattle.ledger.proofs.Running.{judges}
 use Rattle.ledger.proofs.run.Statement.{statement}
 use Rattle.ledger.proofs.run.Tie as tie
 
 abbrev Inv-loop : tie.InvT-loop
-Inv-loop records-fd replies-fd records₀ replies₀ s₀ left₀ records replies s left = (s .records .held ≤ length records) × (s .replies .held ≤ length replies) × (length records ≡ length records₀) × (length replies ≡ length replies₀) × (s .more ≡ true) × (s .records .fd ≡ s₀ .records .fd) × (s .replies .fd ≡ s₀ .replies .fd) × Reading s records replies
+Inv-loop records-fd replies-fd records₀ replies₀ s₀ left₀ records replies s left = (s .records .held ≤ length records) × (s .replies .held ≤ length replies) × (length records ≡ length records₀) × (length replies ≡ length replies₀) × (s .more ≡ true) × Reached (Starts (s₀ .records .fd) (s₀ .replies .fd)) Turning (standing s records replies)
 
 abbrev μ-loop : tie.MeasureT-loop
 μ-loop records-fd replies-fd records₀ replies₀ s₀ left₀ records replies s left = left
@@ -21,7 +23,7 @@ new-requires : tie.Need-new-requires Inv-loop μ-loop
 new-requires c κs = search needs
 
 loop-holds : tie.Need-loop-holds Inv-loop μ-loop
-loop-holds c = (omega arith, omega arith, refl, refl, refl, refl, refl, nothing-read _ _ _ (c .new .ensures) refl refl refl)
+loop-holds c = (omega arith, omega arith, refl, refl, refl, starts _ Turning _ (record { book = c .new .ensures; number = refl; records = refl; replies = refl; more = refl }))
 
 turn-requires : tie.Need-turn-requires Inv-loop μ-loop
 turn-requires c κs = search needs
@@ -36,7 +38,8 @@ returns : tie.Need-returns Inv-loop μ-loop
 returns c =
     let v = c .before .before .before .before .before .before .before .before .before .before .loop .inv in
     let f = c .before .before .before .before .before .before .before .before .before .before .before .before .before .before .fits in
-    comes-to-end (v .7) (c .before .before .before .before .before .before .turn .ensures) (v .5 ∙ toZ-ofZ (f .records-fd)) (v .6 ∙ toZ-ofZ (f .replies-fd))
+    let t = c .before .before .before .before .before .before .turn .ensures in
+    rw (toZ-ofZ (f .records-fd), toZ-ofZ (f .replies-fd)) at (judges _ _ _ (one-turn _ Turning _ _ (v .5) (v .4, t)))
 
 sub-left : tie.Need-sub-left Inv-loop μ-loop
 sub-left c = search needs
@@ -49,7 +52,7 @@ loop-again c =
     let l = c .before .before .before .before .before .before .before .before .before .before .loop in
     let t = c .before .before .before .before .before .before .turn in
     let m = yes-of (t .result .more) (c .if1 .left) in
-    (search needs, search needs, search needs, search needs, m, t .ensures .records-on .fd ∙ l .inv .5, t .ensures .replies-on .fd ∙ l .inv .6, reads-on (l .inv .7) (t .ensures) m)
+    (search needs, search needs, search needs, search needs, m, one-turn _ Turning _ _ (l .inv .5) (l .inv .4, t .ensures))
 
 same-length-3 : tie.Need-same-length-3 Inv-loop μ-loop
 same-length-3 c = search needs
@@ -61,7 +64,7 @@ returns-2 : tie.Need-returns-2 Inv-loop μ-loop
 returns-2 c =
     let v = c .before .loop .inv in
     let f = c .before .before .before .before .before .fits in
-    not-ended (v .4) (v .5 ∙ toZ-ofZ (f .records-fd)) (v .6 ∙ toZ-ofZ (f .replies-fd))
+    rw (toZ-ofZ (f .records-fd), toZ-ofZ (f .replies-fd)) at (judges _ _ _ (v .5))
 
 pub run-spec : {M : Type 1} → statement M
 run-spec =

@@ -1,8 +1,9 @@
 -- What is taken lies within what is held, so the rest can be moved to the start. Where nothing is taken no exchange is whole.
 use native.Mathlib.Omega.{arith}
-use mathlib.Core.Path.{sym}
+use mathlib.Core.Path.{sym, _∙_}
 use lib.Seq.{length-take-le}
 use Rattle.framing.proofs.Fitting.{within}
+use Rattle.framing.proofs.Keeping.{shifted-within}
 use Rattle.ledger.proofs.Turning.{starved}
 use Rattle.ledger.proofs.Taking.{none-taken, takes}
 use borrow.Author.Needs.{needs}
@@ -41,13 +42,10 @@ returns c =
     starved (a .s) (a .records .now) (a .replies .now) (s .pre .0) (s .pre .1) z (c .before .before .before .before .starve .ensures)
 
 shift-requires : tie.Need-shift-requires
-shift-requires c κs = let s = c .before .before .before .before .before .before .before .before .before .before in (within (s .args .s .records .held) (s .args .records .now) (s .pre .0) (c .before .before .hear-all .ensures .taken), s .pre .0)
+shift-requires c κs = search needs
 
 shift-requires-2 : tie.Need-shift-requires-2
-shift-requires-2 c κs =
-    let s = c .before .before .before .before .before .before .before .before .before .before .before .before .before .before in
-    let h = within (s .args .s .replies .held) (s .args .replies .now) (s .pre .1) (c .before .before .before .before .before .before .hear-all .ensures .answered) in
-    (omega arith, s .pre .1)
+shift-requires-2 c κs = search needs
 
 without-requires : tie.Need-without-requires
 without-requires c κs = let s = c .before .before .before .before .before .before .before .before .before .before .before .before .before .before .before .before .before .before in within (s .args .s .records .held) (s .args .records .now) (s .pre .0) (c .before .before .before .before .before .before .before .before .before .before .hear-all .ensures .taken)
@@ -68,8 +66,11 @@ returns-2 : tie.Need-returns-2
 returns-2 c =
     let s = c .before .before .before .before .before .before .before .before .before .before .before .before .before .before .before .before .before .before .before .before .before .before in
     let a = s .args in
+    let p = c .before .before .before .before .before .before .before .before .before .before .before .before .before .before .hear-all in
+    let e = c .before .before .before .before .before .before .before .before .before .before .before .shift .ensures ∙ shifted-within (a .records .now) (p .result .taken) (a .s .records .held) (s .pre .0) in
+    let f = c .before .before .before .before .before .before .before .shift2 .ensures ∙ shifted-within (a .replies .now) (p .result .answered) (a .s .replies .held) (s .pre .1) in
     rw (c .before .plus .ensures, c .before .before .before .without .ensures, c .before .before .without2 .ensures)
-    (takes (a .s) (a .records .now) (a .replies .now) (s .pre .0) (s .pre .1) (c .before .before .before .before .before .before .before .before .before .before .before .before .before .before .hear-all .ensures) (c .before .before .before .before .before .before .before .before .before .before .before .shift .ensures) (c .before .before .before .before .before .before .before .shift2 .ensures))
+    (takes (a .s) (a .records .now) (a .replies .now) (s .pre .0) (s .pre .1) (p .ensures) e f (c .before .before .before .before .before .before .before .before .before .before .before .before .before .if1 .left))
 
 pub turn-spec : {M : Type 1} → statement M
 turn-spec =

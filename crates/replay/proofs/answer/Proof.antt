@@ -13,7 +13,7 @@ use Rattle.replay.proofs.answer.Tie as tie
 
 abbrev Inv-loop : tie.InvT-loop
 Inv-loop head₀ sets₀ places₀ bytes replies₀ taken₀ made₀ head sets places replies taken made =
-    (taken ≤ length bytes) × (made ≤ length replies) × (length replies ≡ length replies₀) × Answers (memory head₀ sets₀ places₀) bytes (memory head sets places) taken made replies
+    (taken ≤ length bytes) × (made ≤ length replies) × (length replies ≡ length replies₀) × Answers (memory head₀ sets₀ places₀) bytes (memory head sets places) taken made replies₀ replies
 
 abbrev μ-loop : tie.MeasureT-loop
 μ-loop head₀ sets₀ places₀ bytes replies₀ taken₀ made₀ head sets places replies taken made = length bytes - taken

@@ -1,6 +1,11 @@
--- A read puts bytes behind those that wait.
+-- A read puts bytes behind those that wait, and the run goes on where it puts any.
 use native.Mathlib.Omega.{arith}
-use Rattle.framing.proofs.Keeping.{front}
+use mathlib.Core.Path.{refl, ap}
+use lib.Dec.{ltb}
+use mir.Syntax.{w64}
+use mir.Val.{toZ, ofZ}
+use Rattle.wire.proofs.Ints.{below-zero}
+use Rattle.framing.proofs.Keeping.{front, some-more}
 use borrow.Author.Needs.{needs}
 use Rattle.replay.proofs.read_on.Statement.{statement}
 use Rattle.replay.proofs.read_on.Tie as tie
@@ -33,8 +38,17 @@ same-length c = search needs
 returns : tie.Need-returns
 returns c =
     let st = c .before .before .before .before .before .before .before .before .before .before in
+    let h = st .args .held in
     let p = st .pre in
-    (search needs, (front (st .args .held) (st .args .input .now) _ (omega (arith, p)), search needs))
+    record {
+      within = search needs;
+      grows = search needs;
+      kept = front h (st .args .input .now) _ (omega (arith, p));
+      none-made = refl;
+      goes-on = some-more (c .before .before .count .result) h;
+      failed = λ t. let g = toZ w64 (ofZ w64 (c .before .before .before .before .before .before .read .result)) in ap (ltb 0) (rw (below-zero g t) at (c .before .before .count .ensures .1));
+      unwritten = refl;
+    }
 
 pub read-on-spec : {M : Type 1} → statement M
 read-on-spec =

@@ -26,7 +26,7 @@ returns : tie.Need-returns
 returns c =
     let s = c .before .before .before .before .before .before .before .before .before in
     let st = c .before .before .step in
-    added (s .args .made) (s .args .replies .now) _ (s .pre) (st .kept .1 .1 .1 .1 .0) (st .ensures)
+    added (s .args .made) (s .args .replies .now) (s .pre) (st .kept .1 .1 .1 .1 .0) (st .ensures)
 
 pub reply-to-spec : {M : Type 1} → statement M
 reply-to-spec =

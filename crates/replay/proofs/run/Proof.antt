@@ -1,26 +1,30 @@
--- The bytes that wait lie within the input buffer, and the turns that are left fall.
+-- Some turns led here from a fresh session, and the turns that are left fall.
 use Prim.Native.Nat.{_≤_}
-use mathlib.Core.Path.{_≡_}
+use mathlib.Core.Path.{_≡_, refl}
+use mathlib.Core.Bool.{true}
+use native.Mathlib.Omega.{arith}
 use borrow.Author.Needs.{needs}
 use lib.ListN.{length}
+use Rattle.paper.proofs.Ways.{yes-of}
+use Rattle.session.specs.View.{memory}
+use Rattle.framing.proofs.Running.{Reached, starts, one-turn}
+use Rattle.replay.specs.Turns.{standing, Starts, Turns}
+use Rattle.replay.proofs.Running.{replays}
 use Rattle.replay.proofs.run.Statement.{statement}
 use Rattle.replay.proofs.run.Tie as tie
-use Rattle.replay.proofs.run.Reads as reads
-use Rattle.replay.proofs.run.Lts as lts
-use Rattle.replay.proofs.turn.Reads as turn-reads
-use Rattle.session.proofs.fresh.Reads as fresh-reads
 
 abbrev Inv-loop : tie.InvT-loop
-Inv-loop input₀ output₀ head₀ sets₀ places₀ held₀ left₀ input output head sets places held left = (held ≤ length input) × (length input ≡ length input₀) × (length output ≡ length output₀)
+Inv-loop head₀ sets₀ places₀ input₀ output₀ t₀ left₀ head sets places input output t left =
+    (t .held ≤ length input) × (length input ≡ length input₀) × (length output ≡ length output₀) × (t .more ≡ true) × Reached Starts Turns (standing (memory head sets places) t input output)
 
 abbrev μ-loop : tie.MeasureT-loop
-μ-loop input₀ output₀ head₀ sets₀ places₀ held₀ left₀ input output head sets places held left = left
+μ-loop head₀ sets₀ places₀ input₀ output₀ t₀ left₀ head sets places input output t left = left
 
 fresh-requires : tie.Need-fresh-requires Inv-loop μ-loop
 fresh-requires c κs = search needs
 
 loop-holds : tie.Need-loop-holds Inv-loop μ-loop
-loop-holds c = search needs
+loop-holds c = (omega arith, refl, refl, refl, starts Starts Turns _ (c .fresh .ensures .0, refl, refl))
 
 turn-requires : tie.Need-turn-requires Inv-loop μ-loop
 turn-requires c κs = search needs
@@ -32,7 +36,10 @@ same-length-2 : tie.Need-same-length-2 Inv-loop μ-loop
 same-length-2 c = search needs
 
 returns : tie.Need-returns Inv-loop μ-loop
-returns c = search needs
+returns c =
+    let l = c .before .before .before .before .before .before .before .before .before .before .before .before .before .loop in
+    let t = c .before .before .before .before .before .before .turn in
+    replays _ (one-turn Starts Turns _ _ (l .inv .4) (l .inv .3, t .ensures .1))
 
 sub-left : tie.Need-sub-left Inv-loop μ-loop
 sub-left c = search needs
@@ -41,7 +48,10 @@ loop-less : tie.Need-loop-less Inv-loop μ-loop
 loop-less c = search needs
 
 loop-again : tie.Need-loop-again Inv-loop μ-loop
-loop-again c = search needs
+loop-again c =
+    let l = c .before .before .before .before .before .before .before .before .before .before .before .before .before .loop in
+    let t = c .before .before .before .before .before .before .turn in
+    (search needs, search needs, search needs, yes-of (t .result .more) (c .if1 .left), one-turn Starts Turns _ _ (l .inv .4) (l .inv .3, t .ensures .1))
 
 same-length-3 : tie.Need-same-length-3 Inv-loop μ-loop
 same-length-3 c = search needs
@@ -50,7 +60,7 @@ same-length-4 : tie.Need-same-length-4 Inv-loop μ-loop
 same-length-4 c = search needs
 
 returns-2 : tie.Need-returns-2 Inv-loop μ-loop
-returns-2 c = search needs
+returns-2 c = replays _ (c .before .loop .inv .4)
 
 pub run-spec : {M : Type 1} → statement M
 run-spec =

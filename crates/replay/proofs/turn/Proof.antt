@@ -1,11 +1,12 @@
 -- What is taken and what is made lies within the buffers, so the rest of the input can be moved to the start. Where nothing is taken no record is whole,
 -- so what waits is shorter than the input buffer.
-use mathlib.Core.Path.{_≡_, sym}
+use mathlib.Core.Path.{_≡_, sym, _∙_}
 use native.Mathlib.Omega.{arith}
 use lib.ListN.{length}
 use lib.Seq.{length-take-le}
-use Rattle.replay.proofs.Answering.{room-left, none-changed}
+use Rattle.replay.proofs.Answering.{no-size, room-left, none-changed, none-written}
 use Rattle.framing.proofs.Fitting.{within}
+use Rattle.framing.proofs.Keeping.{shifted-within}
 use Rattle.replay.proofs.Turning.{waited, answered}
 use borrow.Author.Needs.{needs}
 use Rattle.replay.proofs.turn.Statement.{statement}
@@ -35,7 +36,7 @@ read-on-requires c κs =
     let e : length (a .last .1 .1 .1 .1 .0) ≡ length (st .args .output .now) = a .kept .1 .1 .1 .1 .0 in
     let p = st .pre in
     room-left (st .args .held) (a .result .taken) (a .result .made) (st .args .input .now) (a .last .1 .1 .1 .1 .0) (c .before .if1 .taken) (a .ensures .1 .0) (a .ensures .1 .1)
-    (a .ensures .0 .1) (omega (arith, e, p)) (λ k. c .before .before .before .before .before .before .before .before .before .before .before .slice-known .given k .fits) (p .1 .0) (p .0)
+    (omega (arith, e, p)) (λ k. c .before .before .before .before .before .before .before .before .before .before .before .slice-known .given k .fits) (p .1 .0) (p .0)
 
 same-length : tie.Need-same-length
 same-length c = search needs
@@ -47,8 +48,12 @@ returns : tie.Need-returns
 returns c =
     let st = c .before .before .before .before .before .before .before .before .before .before .before .before .before .before .before in
     let a = c .before .before .before .before .before .before .before .answer in
-    let k = c .before .before .read-on .ensures .1 in
-    (search needs, waited (st .args .held) (st .args .input .now) (k .0) (k .1) (none-changed (c .before .before .before .before .if1 .taken) (a .ensures .1 .0)))
+    let e : length (a .last .1 .1 .1 .1 .0) ≡ length (st .args .output .now) = a .kept .1 .1 .1 .1 .0 in
+    let p = st .pre in
+    let none = c .before .before .before .before .if1 .taken in
+    let z = no-size (st .args .held) (a .result .taken) (a .result .made) (st .args .input .now) (a .last .1 .1 .1 .1 .0) none (a .ensures .1 .0) (a .ensures .1 .1) (omega (arith, e, p)) in
+    let f = c .before .before .read-on .ensures in
+    (f .within, waited (st .args .held) (st .args .input .now) z f (none-changed none (a .ensures .1 .0)) (none-written none (a .ensures .1 .0)))
 
 slice-reshare-prefix-write-all : tie.Need-slice-reshare-prefix-write-all
 slice-reshare-prefix-write-all c = search needs
@@ -62,10 +67,7 @@ write-all-requires : tie.Need-write-all-requires
 write-all-requires c κs = search needs
 
 shift-requires : tie.Need-shift-requires
-shift-requires c κs =
-    let s = c .before .before .before .before .before .before .before .before .before .before .before .before .before .before in
-    let h = within (s .args .held) (s .args .input .now) (s .pre .0) (c .before .before .before .before .before .before .answer .ensures .0 .0) in
-    (h, s .pre .0)
+shift-requires c κs = search needs
 
 sub-t26 : tie.Need-sub-t26
 sub-t26 c =
@@ -83,7 +85,7 @@ returns-2 c =
     let st = c .before .before .before .before .before .before .before .before .before .before .before .before .before .before .before .before .before in
     let a = c .before .before .before .before .before .before .before .before .before .answer in
     let w = within (st .args .held) (st .args .input .now) (st .pre .0) (a .ensures .0 .0) in
-    (search needs, answered (st .args .held) (st .args .input .now) (st .pre .0) w (a .ensures .1 .0) (c .before .before .shift .ensures))
+    (search needs, answered (st .args .held) (st .args .input .now) _ (c .before .before .before .before .before .before .if1 .left) (st .pre .0) w (a .ensures .1 .0) (c .before .before .shift .ensures ∙ shifted-within (st .args .input .now) (a .result .taken) (st .args .held) (st .pre .0)))
 
 pub turn-spec : {M : Type 1} → statement M
 turn-spec =

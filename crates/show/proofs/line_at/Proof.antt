@@ -20,9 +20,7 @@ same-length : tie.Need-same-length
 same-length c = search needs
 
 returns : tie.Need-returns
-returns c =
-    let a = c .before .before .before .before .before .before .args in
-    added (a .number) (a .reply .now) (a .made) (a .out .now) _ (c .before .before .before .before .before .before .pre) (c .before .before .line .ensures)
+returns c = added (c .before .before .before .before .before .before .pre) (c .before .before .line .ensures)
 
 pub line-at-spec : {M : Type 1} → statement M
 line-at-spec =

@@ -11,7 +11,7 @@ use Rattle.show.proofs.lines.Statement.{statement}
 use Rattle.show.proofs.lines.Tie as tie
 
 abbrev Inv-loop : tie.InvT-loop
-Inv-loop number bytes out₀ next₀ taken₀ made₀ out next taken made = (taken ≤ length bytes) × (made ≤ length out) × (length out ≡ length out₀) × Lines number bytes next taken made out
+Inv-loop number bytes out₀ next₀ taken₀ made₀ out next taken made = (taken ≤ length bytes) × (made ≤ length out) × (length out ≡ length out₀) × Lines number bytes next taken made out₀ out
 
 abbrev μ-loop : tie.MeasureT-loop
 μ-loop number bytes out₀ next₀ taken₀ made₀ out next taken made = length bytes - taken

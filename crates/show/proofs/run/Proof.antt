@@ -1,19 +1,26 @@
--- The bytes that wait lie within the input buffer, and the turns that are left fall.
+-- Some turns led here from the first reply, and the turns that are left fall.
 use Prim.Native.Nat.{_≤_}
-use mathlib.Core.Path.{_≡_}
+use mathlib.Core.Path.{_≡_, refl}
+use mathlib.Core.Bool.{true}
+use native.Mathlib.Omega.{arith}
 use borrow.Author.Needs.{needs}
 use lib.ListN.{length}
+use Rattle.paper.proofs.Ways.{yes-of}
+use Rattle.framing.proofs.Running.{Reached, starts, one-turn}
+use Rattle.show.specs.Turns.{standing, Starts, Turns}
+use Rattle.show.proofs.Running.{shows}
 use Rattle.show.proofs.run.Statement.{statement}
 use Rattle.show.proofs.run.Tie as tie
 
 abbrev Inv-loop : tie.InvT-loop
-Inv-loop input₀ output₀ next₀ held₀ left₀ input output next held left = (held ≤ length input) × (length input ≡ length input₀) × (length output ≡ length output₀)
+Inv-loop input₀ output₀ t₀ left₀ input output t left =
+    (t .held ≤ length input) × (length input ≡ length input₀) × (length output ≡ length output₀) × (t .more ≡ true) × Reached Starts Turns (standing t input output)
 
 abbrev μ-loop : tie.MeasureT-loop
-μ-loop input₀ output₀ next₀ held₀ left₀ input output next held left = left
+μ-loop input₀ output₀ t₀ left₀ input output t left = left
 
 loop-holds : tie.Need-loop-holds Inv-loop μ-loop
-loop-holds c = search needs
+loop-holds c = (omega arith, refl, refl, refl, starts Starts Turns _ (refl, refl, refl))
 
 turn-requires : tie.Need-turn-requires Inv-loop μ-loop
 turn-requires c κs = search needs
@@ -25,7 +32,10 @@ same-length-2 : tie.Need-same-length-2 Inv-loop μ-loop
 same-length-2 c = search needs
 
 returns : tie.Need-returns Inv-loop μ-loop
-returns c = search needs
+returns c =
+    let l = c .before .before .before .before .before .before .before .before .before .before .loop in
+    let t = c .before .before .before .before .before .before .turn in
+    shows _ (one-turn Starts Turns _ _ (l .inv .4) (l .inv .3, t .ensures .1))
 
 sub-left : tie.Need-sub-left Inv-loop μ-loop
 sub-left c = search needs
@@ -34,7 +44,10 @@ loop-less : tie.Need-loop-less Inv-loop μ-loop
 loop-less c = search needs
 
 loop-again : tie.Need-loop-again Inv-loop μ-loop
-loop-again c = search needs
+loop-again c =
+    let l = c .before .before .before .before .before .before .before .before .before .before .loop in
+    let t = c .before .before .before .before .before .before .turn in
+    (search needs, search needs, search needs, yes-of (t .result .more) (c .if1 .left), one-turn Starts Turns _ _ (l .inv .4) (l .inv .3, t .ensures .1))
 
 same-length-3 : tie.Need-same-length-3 Inv-loop μ-loop
 same-length-3 c = search needs
@@ -43,7 +56,7 @@ same-length-4 : tie.Need-same-length-4 Inv-loop μ-loop
 same-length-4 c = search needs
 
 returns-2 : tie.Need-returns-2 Inv-loop μ-loop
-returns-2 c = search needs
+returns-2 c = shows _ (c .before .loop .inv .4)
 
 pub run-spec : {M : Type 1} → statement M
 run-spec =

@@ -1,12 +1,13 @@
 -- What is taken and what is written lies within the buffers, so the rest of the input can be moved to the start. Where nothing is taken no reply is whole,
 -- so what waits is shorter than the input buffer.
-use mathlib.Core.Path.{_≡_, sym}
+use mathlib.Core.Path.{_≡_, sym, _∙_}
 use native.Mathlib.Omega.{arith}
 use borrow.Author.Needs.{needs}
 use lib.ListN.{length}
 use lib.Seq.{length-take-le}
-use Rattle.show.proofs.Lining.{room-left}
+use Rattle.show.proofs.Lining.{no-size, room-left, none-written}
 use Rattle.framing.proofs.Fitting.{within}
+use Rattle.framing.proofs.Keeping.{shifted-within}
 use Rattle.show.proofs.Turning.{waited, lined}
 use Rattle.show.proofs.turn.Statement.{statement}
 use Rattle.show.proofs.turn.Tie as tie
@@ -27,7 +28,7 @@ read-on-requires c κs =
     let e : length (a .last .1 .1 .0) ≡ length (st .args .output .now) = a .kept .1 .1 .0 in
     let p = st .pre in (
       room-left (st .args .held) (a .result .taken) (a .result .made) (st .args .input .now) (a .last .1 .1 .0) (c .before .before .if1 .taken) (a .ensures .1 .0) (a .ensures .1 .1)
-          (a .ensures .0 .1) (omega (arith, e, p)) (λ k. c .before .before .before .before .before .before .before .before .before .slice-known .given k .fits) (p .1 .0) (p .0),
+          (omega (arith, e, p)) (λ k. c .before .before .before .before .before .before .before .before .before .slice-known .given k .fits) (p .1 .0) (p .0),
       omega (arith, e, p),
     )
 
@@ -40,8 +41,12 @@ same-length-2 c = search needs
 returns : tie.Need-returns
 returns c =
     let st = c .before .before .before .before .before .before .before .before .before .before .before .before .before .before .before in
-    let k = c .before .before .before .before .read-on .ensures .1 in
-    (search needs, waited (st .args .held) (st .args .input .now) (k .0) (k .1) (k .2))
+    let a = c .before .before .before .before .before .before .before .before .before .before .lines in
+    let e : length (a .last .1 .1 .0) ≡ length (st .args .output .now) = a .kept .1 .1 .0 in
+    let p = st .pre in
+    let z = no-size (st .args .held) (a .result .taken) (a .result .made) (st .args .input .now) (a .last .1 .1 .0) (c .before .before .before .before .before .before .before .if1 .taken) (a .ensures .1 .0) (a .ensures .1 .1) (omega (arith, e, p)) in
+    let f = c .before .before .before .before .read-on .ensures in
+    (f .within, waited (st .args .held) (st .args .input .now) z (none-written (c .before .before .before .before .before .before .before .if1 .taken) (a .ensures .1 .0)) f)
 
 slice-reshare-prefix-write-all : tie.Need-slice-reshare-prefix-write-all
 slice-reshare-prefix-write-all c = search needs
@@ -53,9 +58,7 @@ write-all-requires : tie.Need-write-all-requires
 write-all-requires c κs = search needs
 
 shift-requires : tie.Need-shift-requires
-shift-requires c κs =
-    let s = c .before .before .before .before .before .before .before .before .before .before .before in
-    (within (s .args .held) (s .args .input .now) (s .pre .0) (c .before .before .before .before .before .before .lines .ensures .0 .0), s .pre .0)
+shift-requires c κs = search needs
 
 sub-t23 : tie.Need-sub-t23
 sub-t23 c =
@@ -73,7 +76,7 @@ returns-2 c =
     let st = c .before .before .before .before .before .before .before .before .before .before .before .before .before .before in
     let a = c .before .before .before .before .before .before .before .before .before .lines in
     let w = within (st .args .held) (st .args .input .now) (st .pre .0) (a .ensures .0 .0) in
-    (search needs, lined (st .args .held) (st .args .input .now) (st .pre .0) w (a .ensures .1 .0) (c .before .before .shift .ensures))
+    (search needs, lined (st .args .held) (st .args .input .now) _ (c .before .before .before .before .before .before .if1 .left) (st .pre .0) w (a .ensures .1 .0) (c .before .before .shift .ensures ∙ shifted-within (st .args .input .now) (a .result .taken) (st .args .held) (st .pre .0)))
 
 pub turn-spec : {M : Type 1} → statement M
 turn-spec =

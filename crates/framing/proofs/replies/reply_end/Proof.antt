@@ -3,7 +3,7 @@ use denote.Ref.{now}
 use native.Mathlib.Omega.{arith}
 use mathlib.Core.Path.{_≡_, _∙_, sym, refl}
 use Rattle.paper.specs.Numbers.{u8, u16}
-use Rattle.framing.proofs.Ends.{end-refused, end-lists, end-tail}
+use Rattle.framing.proofs.Ends.{past-count, end-refused, end-lists, end-tail}
 use borrow.Author.Needs.{needs}
 use Rattle.framing.proofs.replies.reply_end.Statement.{statement}
 use Rattle.framing.proofs.replies.reply_end.Tie as tie
@@ -62,7 +62,10 @@ returns-3 c =
     let a = now (c .before .before .before .before .before .before .before .before .before .args .reply) in
     let z : u16 a 4 ≡ 0 = omega arith in
     let k : u16 a 2 ≡ 259 → ⊥ = omega arith in
-    rw (c .behind2 .ensures .0, c .before .behind .ensures .0, c .before .before .thrown-at .ensures .0, c .before .before .before .tail-place .ensures .0) (sym (end-tail a z k))
+    let p = c .before .before .before .tail-place in
+    let t = c .before .before .thrown-at in
+    let b = c .before .behind in
+    rw (c .behind2 .ensures .0 ∙ past-count 4 a (b .result) (omega arith), b .ensures .0 ∙ past-count 4 a (t .result) (omega arith), t .ensures .0 ∙ past-count 12 a (p .result) (omega arith), p .ensures .0) (sym (end-tail a z k))
 
 pub reply-end-spec : {M : Type 1} → statement M
 reply-end-spec =

@@ -49,13 +49,7 @@ part-build-ref-pic-list-end : tie.Need-part-build-ref-pic-list-end
 part-build-ref-pic-list-end c = let l = laid (now (c .before .before .before .before .before .before .before .before .args .msg)) (c .before .before .before .before .before .before .before .before .pre .0) in omega arith
 
 build-ref-pic-list-requires : tie.Need-build-ref-pic-list-requires
-build-ref-pic-list-requires c κs =
-    let a = c .before .before .before .before .before .before .before .before .before in
-    let x = c .before .before .before .before .before .before .before .ask1 in
-    let r = now (a .args .msg) in
-    let own = own-is r (c .before .before .before .bit2 .ensures) (c .before .before .before .before .byte .ensures) in
-    let uses = not-false (x .result .uses) (c .before .before .before .before .before .if1 .left) in
-    ready-1 r (a .pre .1) own (x .ensures) uses (entries-1 r (a .pre .0) (c .before .before .count0 .ensures) (c .before .count1 .ensures))
+build-ref-pic-list-requires c κs = search needs
 
 returns-2 : tie.Need-returns-2
 returns-2 c =
@@ -64,8 +58,9 @@ returns-2 c =
     let r = now (a .args .msg) in
     let own = own-is r (c .before .before .before .before .bit2 .ensures) (c .before .before .before .before .before .byte .ensures) in
     let uses = not-false (x .result .uses) (c .before .before .before .before .before .before .if1 .left) in
-    held-1 (refsIn (now (a .args .run)) (a .args .refs)) (a .args .c) (sliceOf r) (c .build-ref-pic-list .result) own uses (x .ensures) (entries-1 r (a .pre .0) (c .before .before .before .count0 .ensures) (c .before .before .count1 .ensures))
-    (c .build-ref-pic-list .ensures)
+    let es = entries-1 r (a .pre .0) (c .before .before .before .count0 .ensures) (c .before .before .count1 .ensures) in
+    held-1 (refsIn (now (a .args .run)) (a .args .refs)) (a .args .c) (sliceOf r) (c .build-ref-pic-list .result) own uses (x .ensures) es
+    (ready-1 r (a .pre .1) own (x .ensures) uses es) (c .build-ref-pic-list .ensures)
 
 pub second-list-spec : {M : Type 1} → statement M
 second-list-spec =

@@ -3,6 +3,7 @@ use denote.Ref.{now}
 use native.Mathlib.Omega.{arith}
 use mathlib.Core.Path.{_≡_, _∙_, sym, refl}
 use Rattle.derivation.proofs.Pad.{is-good, is-view}
+use Rattle.framing.proofs.Ends.{past-count}
 use Rattle.watch.proofs.Bytes.{tail-events}
 use Rattle.watch.proofs.Parts.{tells-first, tells-then}
 use borrow.Author.Needs.{needs}
@@ -32,7 +33,8 @@ returns-2 c =
     let r = now (s .args .reply) in
     let z : c .before .before .before .before .before .before .before .run-counted .result .part ≡ 0 = omega arith in
     let n : c .before .before .run-counted2 .result .part ≡ 0 → ⊥ = omega arith in
-    rw (tail-events (s .args .at) r, ← c .before .before .before .before .thrown-at .ensures .0) (tells-then _ (c .before .before .before .before .before .before .before .run-counted .ensures) z (tells-first _ (c .before .before .run-counted2 .ensures) n))
+    let e = c .before .before .before .before .thrown-at .ensures .0 ∙ past-count 12 r (s .args .at) (omega (arith, s .pre .1)) in
+    rw (tail-events (s .args .at) r, ← e) (tells-then _ (c .before .before .before .before .before .before .before .run-counted .ensures) z (tells-first _ (c .before .before .run-counted2 .ensures) n))
 
 behind-requires : tie.Need-behind-requires
 behind-requires c κs = search needs
@@ -48,7 +50,10 @@ returns-3 c =
     let r = now (s .args .reply) in
     let y : c .before .before .before .before .before .before .before .before .before .before .run-counted .result .part ≡ 0 = omega (arith, c .before .before .before .before .before .before .before .before .if1 .left) in
     let z : c .before .before .before .before .before .run-counted2 .result .part ≡ 0 = omega (arith, c .before .before .before .if2 .left) in
-    rw (tail-events (s .args .at) r, ← c .before .before .before .before .before .before .before .thrown-at .ensures .0, ← c .before .before .behind .ensures .0) (tells-then _ (c .before .before .before .before .before .before .before .before .before .before .run-counted .ensures) y (tells-then _ (c .before .before .before .before .before .run-counted2 .ensures) z (c .run-counted3 .ensures)))
+    let t = c .before .before .before .before .before .before .before .thrown-at in
+    let e = t .ensures .0 ∙ past-count 12 r (s .args .at) (omega (arith, s .pre .1)) in
+    let f = c .before .before .behind .ensures .0 ∙ past-count 4 r (t .result) (omega (arith, t .ensures .1, s .pre .1)) in
+    rw (tail-events (s .args .at) r, ← e, ← f) (tells-then _ (c .before .before .before .before .before .before .before .before .before .before .run-counted .ensures) y (tells-then _ (c .before .before .before .before .before .run-counted2 .ensures) z (c .run-counted3 .ensures)))
 
 pub tail-spec : {M : Type 1} → statement M
 tail-spec =

@@ -1,6 +1,8 @@
 -- The three counts and the bit that the test asks for, each read at its place.
 use denote.Ref.{now}
+use native.Mathlib.Omega.{arith}
 use mathlib.Core.Path.{_≡_, _∙_, sym, refl}
+use Rattle.framing.proofs.Ends.{past-count}
 use Rattle.watch.specs.Book.{view}
 use Rattle.watch.proofs.Ways.{clear-is}
 use borrow.Author.Needs.{needs}
@@ -25,8 +27,9 @@ byte-requires-3 c κs = search needs
 returns : tie.Need-returns
 returns c =
     let s = c .before .before .before .before .before .before in
-    rw (c .before .byte2 .ensures, c .before .before .bit3 .ensures, c .before .before .before .byte .ensures, c .byte3 .ensures, c .before .before .before .before .thrown-at .ensures .0)
-    (clear-is (view (s .args .left)) (now (s .args .reply)) (s .args .at) (s .args .left .len) (s .pre .0 .long))
+    let r = now (s .args .reply) in
+    rw (c .before .byte2 .ensures, c .before .before .bit3 .ensures, c .before .before .before .byte .ensures, c .byte3 .ensures, c .before .before .before .before .thrown-at .ensures .0 ∙ past-count 12 r (s .args .at) (omega arith))
+    (clear-is (view (s .args .left)) r (s .args .at) (s .args .left .len) (s .pre .0 .long))
 
 pub is-clear-spec : {M : Type 1} → statement M
 is-clear-spec =

@@ -1,6 +1,8 @@
 -- All three counts are 0.
 use denote.Ref.{now}
+use native.Mathlib.Omega.{arith}
 use mathlib.Core.Path.{_≡_, _∙_, sym, refl}
+use Rattle.framing.proofs.Ends.{past-count}
 use Rattle.watch.proofs.Bytes.{quiet-tail}
 use borrow.Author.Needs.{needs}
 use Rattle.watch.proofs.judging.is_quiet.Statement.{statement}
@@ -24,7 +26,10 @@ byte-requires-3 c κs = search needs
 returns : tie.Need-returns
 returns c =
     let s = c .before .before .before .before .before .before in
-    rw (c .before .before .byte .ensures, c .before .byte2 .ensures, c .byte3 .ensures, c .before .before .before .behind .ensures .0, c .before .before .before .before .thrown-at .ensures .0) (sym (quiet-tail (s .args .at) (now (s .args .reply))))
+    let r = now (s .args .reply) in
+    let b = c .before .before .before .behind in
+    let t = c .before .before .before .before .thrown-at in
+    rw (c .before .before .byte .ensures, c .before .byte2 .ensures, c .byte3 .ensures, b .ensures .0 ∙ past-count 4 r (t .result) (omega arith), t .ensures .0 ∙ past-count 12 r (s .args .at) (omega arith)) (sym (quiet-tail (s .args .at) r))
 
 pub is-quiet-spec : {M : Type 1} → statement M
 is-quiet-spec =

@@ -4,6 +4,7 @@ use native.Mathlib.Omega.{arith}
 use mathlib.Core.Path.{_≡_, _∙_, sym, refl}
 use Rattle.paper.specs.Numbers.{u8, u16}
 use Prim.Native.Nat.{_≤_}
+use Rattle.framing.proofs.Ends.{past-count}
 use Rattle.watch.specs.Book.{most}
 use Rattle.watch.proofs.Replies.{tally-refused, tally-listed, tally-tail}
 use borrow.Author.Needs.{needs}
@@ -70,7 +71,8 @@ returns-3 c =
     let w : u16 a 4 ≡ 0 = omega (arith, c .before .before .before .before .before .before .before .before .if1 .left, c .before .before .before .before .before .before .before .before .before .u16-at .ensures) in
     let k : u16 a 2 ≡ 259 → ⊥ = omega (arith, c .before .before .before .before .before .before .if2 .left, c .before .before .before .before .before .before .before .u16-at2 .ensures) in
     let z : s .args .t .lists ≤ most = search (needs, s .good) in
-    rw (c .before .before .plus2 .ensures, c .plus3 .ensures, c .before .before .before .byte .ensures, c .before .byte2 .ensures, c .before .before .before .before .thrown-at .ensures .0, c .before .before .before .before .before .tail-place .ensures .0) (tally-tail (s .args .t) a w k z)
+    let p = c .before .before .before .before .before .tail-place in
+    rw (c .before .before .plus2 .ensures, c .plus3 .ensures, c .before .before .before .byte .ensures, c .before .byte2 .ensures, c .before .before .before .before .thrown-at .ensures .0 ∙ past-count 12 a (p .result) (omega (arith, p .ensures .1)), p .ensures .0) (tally-tail (s .args .t) a w k z)
 
 pub tally-of-spec : {M : Type 1} → statement M
 tally-of-spec =

@@ -1,0 +1,168 @@
+-- Turn after turn: all that was read so far is whole replies, with their lines, and what waits; where the run ends because no more is read, no whole reply waits.
+use Prim.Native.Nat.{ℕ}
+use mathlib.Core.Path.{_≡_, refl, sym, ap, ap₂, _∙_}
+use mathlib.Core.List.{List, [], _∷_, _++_, append-nil, append-assoc}
+use mathlib.Core.Bool.{true, false, not}
+use native.Mathlib.Omega.{arith}
+use lib.Dec.{eqb}
+use lib.ListN.{take}
+use borrow.Author.Tests.{eqb-true, eqb-false, ltb-false}
+use Rattle.paper.specs.Words.{allB}
+use Rattle.paper.proofs.Bools.{split, not-both}
+use Rattle.framing.specs.Cut.{Parts, sizeOf, joined, isWhole, cut, parts}
+use Rattle.framing.specs.Turns.{brought, Ran, through}
+use Rattle.framing.proofs.Cutting.{one-cut, joined-append, all-append}
+use Rattle.framing.proofs.Keeping.{none-brought, read-so-far}
+use Rattle.framing.proofs.Laying.{put-front}
+use Rattle.framing.proofs.Running.{Reached}
+use Rattle.show.specs.Lines.{lineOf, following}
+use Rattle.show.specs.Stream.{linesOf, numberAfter}
+use Rattle.show.specs.declared.After.{After}
+use Rattle.show.specs.Turns.{endLine, Turned, Stand, waiting, readIn, writtenIn, Starts, Turns, Shows}
+
+-- ---- some replies, and some behind them
+
+lines-append : (n : ℕ) (rs qs : List (List ℕ)) → linesOf n (rs ++ qs) ≡ linesOf n rs ++ linesOf (numberAfter n rs) qs
+unfolding linesOf numberAfter
+lines-append n [] qs = refl
+lines-append n (r ∷ rs) qs = ap (λ (x : List ℕ). lineOf n r ++ x) (lines-append (following n) rs qs) ∙ sym (append-assoc (lineOf n r) (linesOf (following n) rs) _)
+
+number-append : (n : ℕ) (rs qs : List (List ℕ)) → numberAfter n (rs ++ qs) ≡ numberAfter (numberAfter n rs) qs
+unfolding numberAfter
+number-append n [] qs = refl
+number-append n (r ∷ rs) qs = number-append (following n) rs qs
+
+-- ---- one turn
+
+-- a turn that reads makes no line but the last
+turn-reads : {n held : ℕ} {before written after output : List ℕ} {r : After} → Turned n held before written r after output → sizeOf (take held before) ≡ 0 → take (r .made) output ≡ linesOf n [] ++ endLine r
+unfolding linesOf
+turn-reads t z = put-front (t .reads z .1)
+
+none-last : (r : After) → r .more ≡ true → endLine r ≡ []
+unfolding endLine
+none-last r m = rw m
+
+-- while the run goes on, the lines of the replies that it read
+turn-lines : {n held : ℕ} {before written after output : List ℕ} {r : After} (t : Turned n held before written r after output) → r .more ≡ true → take (r .made) output ≡ linesOf n (t .read)
+turn-lines {n} {held} {before} {r = r} t m =
+    split (eqb (sizeOf (take held before)) 0)
+    (λ e.
+    let z = eqb-true (sizeOf (take held before)) 0 e in
+    turn-reads t z ∙ ap₂ (λ (rs : List (List ℕ)) (l : List ℕ). linesOf n rs ++ l) (sym (t .reads z .0)) (none-last r m) ∙ append-nil (linesOf n (t .read)))
+    (λ e. let z = eqb-false (sizeOf (take held before)) 0 e in put-front (t .lines (omega arith) .2))
+
+-- a turn that ends the run, and not because of the output, reads
+end-reads : {n held : ℕ} {before written after output : List ℕ} {r : After} → Turned n held before written r after output → r .more ≡ false → r .unwritten ≡ false → sizeOf (take held before) ≡ 0
+end-reads {held = held} {before = before} {r = r} t m u =
+    split (eqb (sizeOf (take held before)) 0)
+    (λ e. eqb-true (sizeOf (take held before)) 0 e)
+    (λ e.
+    let z = eqb-false (sizeOf (take held before)) 0 e in
+    let k = t .lines (omega arith) in
+    not-both (r .more) (k .3 ∙ ap not u) m)
+
+-- and leaves no whole reply
+end-waits : {n held : ℕ} {before written after output : List ℕ} {r : After} → Turned n held before written r after output → sizeOf (take held before) ≡ 0 → r .more ≡ false → sizeOf (take (r .held) after) ≡ 0
+unfolding joined
+end-waits {held = held} {before = before} {after = after} {r = r} t z m =
+    let k = t .reads z in
+    let n = ltb-false held (r .held) (sym (k .2) ∙ m) in
+    ap sizeOf (same (k .0) (none-brought held (r .held) after (omega arith))) ∙ z
+  where
+    same : t .read ≡ [] → brought held (r .held) after ≡ [] → take (r .held) after ≡ take held before
+    same a b =
+        sym (ap (λ (l : List (List ℕ)). joined l ++ take (r .held) after) a)
+        ∙ sym (t .kept)
+        ∙ ap (λ (l : List ℕ). take held before ++ l) b
+        ∙ append-nil (take held before)
+
+-- ---- so far
+
+record SoFar (R W : List ℕ) (s : Stand) : Type 0 where
+  seen : List (List ℕ)
+  whole : allB isWhole seen ≡ true
+  kept : R ≡ joined seen ++ waiting s
+  lines : W ≡ linesOf 1 seen
+  number : s .after .next ≡ numberAfter 1 seen
+
+nothing-seen : {s : Stand} → Starts s → SoFar [] [] s
+unfolding joined linesOf numberAfter allB
+nothing-seen {s} b = record { seen = []; whole = refl; kept = sym (ap (λ (n : ℕ). take n (s .input)) (b .1)); lines = refl; number = b .0 }
+
+-- what one turn more reads
+module _ {R W : List ℕ} {b s : Stand} (g : SoFar R W b) (t : Turned (b .after .next) (b .after .held) (b .input) (b .output) (s .after) (s .input) (s .output)) where
+  all-seen : List (List ℕ)
+  all-seen = g .seen ++ t .read
+
+  all-whole : allB isWhole all-seen ≡ true
+  unfolding all-seen
+  all-whole = all-append isWhole (g .seen) (t .read) (g .whole) (t .whole)
+
+  all-kept : R ++ readIn b s ≡ joined all-seen ++ waiting s
+  unfolding all-seen
+  all-kept =
+      read-so-far (joined (g .seen)) (waiting b) (readIn b s) (joined (t .read)) (waiting s) (g .kept) (t .kept) ∙ ap (λ (l : List ℕ). l ++ waiting s) (sym (joined-append (g .seen) (t .read)))
+
+  all-number : s .after .next ≡ numberAfter 1 all-seen
+  unfolding all-seen
+  all-number = t .number ∙ ap (λ (n : ℕ). numberAfter n (t .read)) (g .number) ∙ sym (number-append 1 (g .seen) (t .read))
+
+  -- the lines so far, and what the turn handed over
+  all-lines : (more : List ℕ) → writtenIn b s ≡ linesOf (b .after .next) (t .read) ++ more → W ++ writtenIn b s ≡ linesOf 1 all-seen ++ more
+  unfolding all-seen
+  all-lines more e =
+      let rs = g .seen in
+      let qs = t .read in
+      ap₂ (λ (x y : List ℕ). x ++ y) (g .lines) (e ∙ ap (λ (n : ℕ). linesOf n qs ++ more) (g .number))
+      ∙ sym (append-assoc (linesOf 1 rs) (linesOf (numberAfter 1 rs) qs) more)
+      ∙ ap (λ (l : List ℕ). l ++ more) (sym (lines-append 1 rs qs))
+
+  seen-on : s .after .more ≡ true → SoFar (R ++ readIn b s) (W ++ writtenIn b s) s
+  seen-on m =
+      record {
+        seen = all-seen;
+        whole = all-whole;
+        kept = all-kept;
+        lines = all-lines [] (turn-lines t m ∙ sym (append-nil _)) ∙ append-nil (linesOf 1 all-seen);
+        number = all-number;
+      }
+
+so-far : (turns : List Stand) (s : Stand) → Ran Starts Turns turns s → s .after .more ≡ true → SoFar (through readIn turns s) (through writtenIn turns s) s
+unfolding Ran through
+so-far [] s g m = nothing-seen g
+so-far (b ∷ earlier) s g m = seen-on (so-far earlier b (g .0) (g .1 .0)) (g .1 .1) m
+
+-- ---- the end
+
+abbrev Complete : List ℕ → List ℕ → Stand → Type 0
+Complete R W s = (W ≡ linesOf 1 (cut R) ++ endLine (s .after)) × (waiting s ≡ parts R .rest) × (s .after .next ≡ numberAfter 1 (cut R))
+
+ended : {R W : List ℕ} {b s : Stand} → SoFar R W b → Turned (b .after .next) (b .after .held) (b .input) (b .output) (s .after) (s .input) (s .output) → s .after .more ≡ false → s .after .unwritten ≡ false
+    → Complete (R ++ readIn b s) (W ++ writtenIn b s) s
+ended {R} {W} {b} {s} g t m u =
+    let z = end-reads t m u in
+    let p = one-cut (all-seen g t) (waiting s) (sym (all-kept g t)) (all-whole g t) (end-waits t z m) in
+    let e = turn-reads t z ∙ ap (λ (rs : List (List ℕ)). linesOf (b .after .next) rs ++ endLine (s .after)) (sym (t .reads z .0)) in (
+      all-lines g t (endLine (s .after)) e ∙ ap (λ (x : Parts). linesOf 1 (x .whole) ++ endLine (s .after)) (sym p),
+      ap (λ (x : Parts). x .rest) (sym p),
+      all-number g t ∙ ap (λ (x : Parts). numberAfter 1 (x .whole)) (sym p),
+    )
+
+comes-to-end : (turns : List Stand) (s : Stand) → Ran Starts Turns turns s → s .after .more ≡ false → s .after .unwritten ≡ false → Complete (through readIn turns s) (through writtenIn turns s) s
+unfolding Ran through
+comes-to-end [] s g m u = not-both (s .after .more) (g .2) m
+comes-to-end (b ∷ earlier) s g m u = ended (so-far earlier b (g .0) (g .1 .0)) (g .1 .1) m u
+
+-- THE WHOLE RUN
+pub shows : (s : Stand) → Reached Starts Turns s → Shows s
+shows s g =
+    record {
+      turns = g .turns;
+      R = through readIn (g .turns) s;
+      W = through writtenIn (g .turns) s;
+      ran = g .ran;
+      read = refl;
+      handed = refl;
+      all = comes-to-end (g .turns) s (g .ran);
+    }

@@ -1,0 +1,56 @@
+-- Both bytes, or where one is left that one: the byte behind the last is 0.
+use denote.Ref.{now}
+use mathlib.Core.Path.{_≡_}
+use Prim.Native.Nat.{_+_}
+use lib.ListN.{List·getD-eq-default}
+use native.Mathlib.Omega.{arith}
+use Rattle.paper.specs.Numbers.{u8}
+use borrow.Author.Needs.{needs}
+use Rattle.wire.proofs.u16_at.Statement.{statement}
+use Rattle.wire.proofs.u16_at.Tie as tie
+use Rattle.wire.proofs.u16_at.Reads as reads
+use Rattle.wire.proofs.u16_at.Lts as lts
+
+left-requires : tie.Need-left-requires
+left-requires c κs = search needs
+
+shared-slice-read-half : tie.Need-shared-slice-read-half
+shared-slice-read-half c = search needs
+
+add-half : tie.Need-add-half
+add-half c = search needs
+
+shared-slice-read-half-2 : tie.Need-shared-slice-read-half-2
+shared-slice-read-half-2 c = search needs
+
+half-requires : tie.Need-half-requires
+half-requires c κs = search needs
+
+returns : tie.Need-returns
+returns c = search needs
+
+byte-requires : tie.Need-byte-requires
+byte-requires c κs = search needs
+
+half-requires-2 : tie.Need-half-requires-2
+half-requires-2 c κs = search needs
+
+returns-2 : tie.Need-returns-2
+returns-2 c =
+    let a = c .before .before .before .before .before .args in
+    let e : u8 (now (a .s)) (a .at + 1) ≡ 0 = List·getD-eq-default (now (a .s)) 0 (omega arith) in
+    omega (arith, e)
+
+pub u16-at-spec : {M : Type 1} → statement M
+u16-at-spec =
+    tie.close
+    (tie.spec
+    left-requires
+    shared-slice-read-half
+    add-half
+    shared-slice-read-half-2
+    half-requires
+    returns
+    byte-requires
+    half-requires-2
+    returns-2)
