@@ -1,28 +1,24 @@
 #!/usr/bin/env python3
-"""check.py PROGRAM..: the driver PROGRAM (a command: words before the recording) answers the vectors, and recordings of every profile of tools/generate.py,
-byte for byte as tools/model.py. Ends with status 1 at the first difference."""
+"""check.py PROGRAM..: the driver PROGRAM (a command: words before the recording) answers the vectors, and recordings of
+every profile of tools/lib/generate.py, byte for byte as the model (tools/lib/model.py). Ends with status 1 at the first
+difference."""
 import pathlib
 import subprocess
 import sys
 import tempfile
 
-ROOT = pathlib.Path(__file__).resolve().parent.parent
-sys.path.insert(0, str(ROOT / "tools"))
-import generate
-import model
-import recordings
+sys.path.insert(0, str(pathlib.Path(__file__).resolve().parent.parent / "tools"))
+from lib import generate, model, recordings
 
-PROFILES = ["random-access", "low-delay", "long-term", "leading", "layers", "small", "encoders", "chaos", "edges", "wild", "limits"]
-
-
-def whole(record):
-    """A stream of records can hold only these; a slice that is no record is for a single call."""
-    return len(record) >= 4 and len(record) == 4 + int.from_bytes(record[:2], "little")
+PROFILES = [
+    "random-access", "low-delay", "long-term", "leading", "layers", "small", "encoders",
+    "chaos", "edges", "wild", "limits",
+]
 
 
 def samples():
-    for recording in recordings.read(ROOT / "vectors"):
-        if all(map(whole, recording.said)):
+    for recording in recordings.read(recordings.VECTORS):
+        if recordings.in_stream(recording):
             yield recording.name, b"".join(recording.said), b"".join(recording.answered)
     for profile in PROFILES:
         for seed in range(5):

@@ -1,4 +1,5 @@
-// Answers a recording some times over, from memory: driver RECORDING ROUNDS [REPLIES]. What is counted is `answer_all`, of the proved library or of plain.cpp.
+// Answers a recording some times over, from memory: driver RECORDING ROUNDS [REPLIES]. What is counted is `answer_all`,
+// of the proved library or of plain.cpp.
 #include <cstddef>
 #include <cstdint>
 #include <cstdio>

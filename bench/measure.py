@@ -1,8 +1,10 @@
 #!/usr/bin/env python3
-"""measure.py QEMU [--keep FILE] [--into PAGE]: counts the programs that run.sh has built, checks first that all of them answer alike, and prints the tables.
+"""measure.py QEMU [--keep FILE] [--into PAGE]: counts the programs that run.sh has built, checks first that all of them
+answer alike, and prints the tables.
 
---keep FILE writes the figures to a file; bench/before.json has those of an earlier state, which stand in the column 'before'.
---into PAGE puts the tables between the two marks of a page.
+--keep FILE writes the figures to a file; bench/before.json has those of an earlier state, which stand in the column
+'before'. --into PAGE puts the tables between the two marks of a page. $TOOLCHAIN is the kit's toolchain and $EMULATOR
+the kit's emulator, empty where none is needed: run.sh sets both.
 """
 import json
 import os
@@ -17,9 +19,8 @@ ROOT = HERE.parent
 OUT = ROOT / "target" / "bench"
 sys.path[:0] = [str(HERE), str(ROOT / "tools")]
 import check
-import model
-import records
 import streams
+from lib import model, records
 
 KINDS = {1: "configure", 2: "begin", 3: "lists", 4: "finish", 5: "drain"}
 ROWS = ["mean", "begin", "lists", "finish", "drain"]
@@ -58,8 +59,9 @@ def counted(qemu, command, mark=None, memory=True, given=None):
     """The environment is empty and the seed fixed: both can change what a program's start executes."""
     out = OUT / "count.txt"
     plugin = f"{OUT}/icount.so,out={out}" + ",mem=1" * memory + (f",mark={mark}+round_end" if mark else "")
+    counting = [shutil.which(qemu), "-seed", "1", "-cpu", "qemu64", "-plugin", plugin, *command]
     with open(given or os.devnull, "rb") as source:
-        subprocess.run([shutil.which(qemu), "-seed", "1", "-cpu", "qemu64", "-plugin", plugin, *command], env={}, stdin=source, stdout=subprocess.DEVNULL, check=True)
+        subprocess.run(counting, env={}, stdin=source, stdout=subprocess.DEVNULL, check=True)
     return Count(out.read_text())
 
 
@@ -125,8 +127,13 @@ def of_streams(qemu):
 
 
 def of_functions(count, n):
-    """For each function of ours: instructions of its own, copies that it calls for, and instructions of these, for a record."""
-    ours = [(name, round(own / n, 1), round(copies / n, 1), round(copying / n, 1)) for name, own, _, _, _, copies, copying in count.functions if "::" in name or name == "answer_all"]
+    """For each function of ours: instructions of its own, copies that it calls for, and instructions of these, for a
+    record."""
+    ours = [
+        (name, round(own / n, 1), round(copies / n, 1), round(copying / n, 1))
+        for name, own, _, _, _, copies, copying in count.functions
+        if "::" in name or name == "answer_all"
+    ]
     return sorted(ours, key=lambda f: -f[1] - f[3])
 
 
@@ -149,7 +156,8 @@ def plain_replies(qemu, path):
 
 
 def peak_of(command, path, asked):
-    """The most memory that a process held when it had answered all of a recording, in kilobytes; its replies must be those asked for."""
+    """The most memory that a process held when it had answered all of a recording, in kilobytes; its replies must be
+    those asked for."""
     process = subprocess.Popen(command, stdin=subprocess.PIPE, stdout=subprocess.PIPE)
     feeding = threading.Thread(target=lambda: (process.stdin.write(path.read_bytes()), process.stdin.flush()))
     feeding.start()
@@ -163,18 +171,19 @@ def peak_of(command, path, asked):
 
 
 def of_lengths(qemu):
-    """The program `replay`, input and output included: instructions, 4,096-byte pages touched, and the most memory that the process held."""
-    kit = pathlib.Path(os.environ.get("RATTLE_HOME") or pathlib.Path(shutil.which("rt")).resolve().parent.parent)
-    tools = kit / "on" / os.uname().machine / "toolchain"
-    command = [tools / "lib" / "ld-linux-x86-64.so.2", "--library-path", tools / "lib", OUT / "replay"]
-    emulator = [tools / "bin" / "qemu-x86_64"] if (tools / "bin" / "qemu-x86_64").exists() else []
+    """The program `replay`, input and output included: instructions, 4,096-byte pages touched, and the most memory that
+    the process held."""
+    libraries = pathlib.Path(os.environ["TOOLCHAIN"]) / "lib"
+    command = [libraries / "ld-linux-x86-64.so.2", "--library-path", libraries, OUT / "replay"]
+    emulator = [os.environ["EMULATOR"]] if os.environ["EMULATOR"] else []
     start, figures = counted(qemu, command, memory=False).total, {}
     for length in LENGTHS:
         path, _ = stream_file("records", length)
         peak = peak_of([*emulator, *command], path, plain_replies(qemu, path))
         total = counted(qemu, command, memory=False, given=path).total
         pages = counted(qemu, command, given=path).pages
-        figures[str(length)] = {"instructions": round((total - start) / length, 1), "pages": pages, "kilobytes": peak, "emulated": bool(emulator)}
+        each = round((total - start) / length, 1)
+        figures[str(length)] = {"instructions": each, "pages": pages, "kilobytes": peak, "emulated": bool(emulator)}
     return figures
 
 
@@ -205,7 +214,8 @@ def show_streams(figures, before):
         heads = [name] + ["before"] * bool(old) + ["ours", *others, "ours / Rust", "ours / Rust, least", "ours / C++"]
         rows = []
         for row in ROWS:
-            cells = [row] + ([whole(old["ours"][row][0])] if old else []) + [with_bytes(here[p][row]) for p in ["ours", *others]]
+            cells = [row] + ([whole(old["ours"][row][0])] if old else [])
+            cells += [with_bytes(here[p][row]) for p in ["ours", *others]]
             rows.append(cells + [ratio(here, row, ["Rust"]), ratio(here, row, ["Rust, least"]), ratio(here, row, cpp)])
         text += table(heads, rows)
     return text
@@ -216,7 +226,10 @@ def show_functions(figures):
     for name in STREAMS:
         functions = figures[name]["functions"]
         every = sum(own + copying for _, own, _, copying in functions)
-        rows = [[f"`{f}`", whole(own), f"{copies:.1f}", whole(copying), f"{100 * (own + copying) / every:.0f} %"] for f, own, copies, copying in functions[:10]]
+        rows = [
+            [f"`{f}`", whole(own), f"{copies:.1f}", whole(copying), f"{100 * (own + copying) / every:.0f} %"]
+            for f, own, copies, copying in functions[:10]
+        ]
         sums = [sum(column) for column in zip(*[f[1:] for f in functions])]
         rows.append(["all", whole(sums[0]), f"{sums[1]:.1f}", whole(sums[2]), "100 %"])
         text += table([f"{name}: function", "own instructions", "copies", "instructions of the copies", "share"], rows)
@@ -230,12 +243,14 @@ def show_depths(figures, before):
     for depth in DEPTHS:
         here = figures[str(depth)]
         old = [whole(before[str(depth)]["ours"]["mean"][0])] if before else []
-        rows.append([str(depth), *old, *[whole(here["ours"][row][0]) for row in ROWS], *[whole(here[p]["mean"][0]) for p in others]])
+        ours = [whole(here["ours"][row][0]) for row in ROWS]
+        rows.append([str(depth), *old, *ours, *[whole(here[p]["mean"][0]) for p in others]])
     return table(heads, rows)
 
 
 def show_lengths(figures, before):
-    heads = ["records"] + ["before"] * bool(before) + ["instructions a record", "pages touched", "peak KB of the process" + " (emulator included)" * figures[str(LENGTHS[0])]["emulated"]]
+    peak = "peak KB of the process" + " (emulator included)" * figures[str(LENGTHS[0])]["emulated"]
+    heads = ["records"] + ["before"] * bool(before) + ["instructions a record", "pages touched", peak]
     rows = []
     for length in LENGTHS:
         here, old = figures[str(length)], [whole(before[str(length)]["instructions"])] if before else []

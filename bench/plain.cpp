@@ -1,6 +1,6 @@
-// A picture session by document 01 as plain C++ that works in place: what the proved code is measured against. Nothing is proved of it; it answers byte
-// for byte as tools/model.py. Parsing, refusals and reply bytes are in it, as they are in `session::step`.
-// It includes nothing, so that any compiler for x86-64 takes it as it stands.
+// A picture session by document 01 as plain C++ that works in place: what the proved code is measured against. Nothing
+// is proved of it; it answers byte for byte as tools/lib/model.py. Parsing, refusals and reply bytes are in it, as they
+// are in `session::step`. It includes nothing, so that any compiler for x86-64 takes it as it stands.
 using size_t = decltype(sizeof 0);
 using uint8_t = __UINT8_TYPE__;
 using uint16_t = __UINT16_TYPE__;
@@ -133,7 +133,8 @@ struct Session {
     // ---- begin
     bool in_range(const uint8_t *b) const {
         unsigned t = b[0], neg = b[9], pos = b[10], lt = b[11], m = 1u << k;
-        if (!(t <= 9 || is_irap(t)) || b[1] > 6 || (is_irap(t) && b[1] != 0) || b[2] > 3 || u16(b + 3) >= m || neg + pos + lt > CAPACITY) return false;
+        if (!(t <= 9 || is_irap(t)) || b[1] > 6 || (is_irap(t) && b[1] != 0)) return false;
+        if (b[2] > 3 || u16(b + 3) >= m || neg + pos + lt > CAPACITY) return false;
         if (is_idr(t) && (u16(b + 3) != 0 || neg + pos + lt != 0)) return false;
         const uint8_t *p = b + 12;
         int32_t last = 0;
@@ -161,8 +162,10 @@ struct Session {
         return prev_msb;
     }
 
-    // Step 4: the searches, long-term before short-term. `wish` and `how` are the POCs asked for, `lt` of them long-term ones at the end.
-    void find_and_mark(const int32_t *wish, const uint8_t *how, unsigned neg, unsigned shorts, unsigned lt, Members &foll, Members &lt_foll) {
+    // Step 4: the searches, long-term before short-term. `wish` and `how` are the POCs asked for, `lt` of them
+    // long-term ones at the end.
+    void find_and_mark(const int32_t *wish, const uint8_t *how, unsigned neg, unsigned shorts, unsigned lt,
+                       Members &foll, Members &lt_foll) {
         uint32_t member = 0;
         int32_t mask = (1 << k) - 1;
         uint8_t place[CAPACITY];
@@ -251,10 +254,13 @@ struct Session {
     }
 
     // ---- lists
-    static bool list_in_range(bool used, unsigned active, bool modify) { return used ? active >= 1 && active <= CAPACITY : active == 0 && !modify; }
+    static bool list_in_range(bool used, unsigned active, bool modify) {
+        return used ? active >= 1 && active <= CAPACITY : active == 0 && !modify;
+    }
 
     void put_list(const uint32_t *from, unsigned n, unsigned active, const uint8_t *entries, Out &o) const {
-        for (unsigned j = 0, i = 0; j < active; j++, i = i + 1 == n ? 0 : i + 1) o.put32(from[entries ? entries[j] : i]);
+        for (unsigned j = 0, i = 0; j < active; j++, i = i + 1 == n ? 0 : i + 1)
+            o.put32(from[entries ? entries[j] : i]);
     }
 
     uint16_t lists(const uint8_t *b, Out &o) {
@@ -381,7 +387,8 @@ struct Answer {
 };
 
 // One call on a record, the session changed where it stands.
-extern "C" __attribute__((noinline)) Answer session_step(Session *s, const uint8_t *msg, size_t n, uint8_t *reply, size_t room) {
+extern "C" __attribute__((noinline))
+Answer session_step(Session *s, const uint8_t *msg, size_t n, uint8_t *reply, size_t room) {
     if (room < REPLY) return {14, 0};
     unsigned kind = Session::kind_of(msg, n);
     const uint8_t *b = msg + 4;

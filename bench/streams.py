@@ -1,10 +1,12 @@
 #!/usr/bin/env python3
-"""The recordings that are counted. The same arguments give the same bytes, and tools/model.py has accepted every record.
+"""The recordings that are counted. The same arguments give the same bytes, and the model (tools/lib/model.py) has
+accepted every record.
 
-    streams.py random-access PICTURES      groups of eight hierarchical B pictures, the sets of HM's encoder_randomaccess_main.cfg
-    streams.py low-delay PICTURES          groups of four P pictures, the sets of HM's encoder_lowdelay_P_main.cfg
-    streams.py depth-N PICTURES            P pictures that refer to the N - 1 pictures before them: N are stored, 1 to 16
-    streams.py records COUNT               the first COUNT records of random-access
+    streams.py random-access PICTURES   groups of eight hierarchical B pictures, the sets of HM's
+                                        encoder_randomaccess_main.cfg
+    streams.py low-delay PICTURES       groups of four P pictures, the sets of HM's encoder_lowdelay_P_main.cfg
+    streams.py depth-N PICTURES         P pictures that refer to the N - 1 pictures before them: N are stored, 1 to 16
+    streams.py records COUNT            the first COUNT records of random-access
 One slice a picture; every 64 pictures a drain and an IDR picture. Surfaces come from a pool of 20.
 """
 import pathlib
@@ -12,8 +14,8 @@ import sys
 from itertools import islice
 
 sys.path.insert(0, str(pathlib.Path(__file__).resolve().parent.parent / "tools"))
-import model
-from generate import B, DRAIN, FINISH, I, IDR_N_LP, P, TRAIL, begin_bytes, configure_bytes, lists_bytes
+from lib import model
+from lib.generate import B, DRAIN, FINISH, I, IDR_N_LP, P, TRAIL, begin_bytes, configure_bytes, lists_bytes
 
 PERIOD = 64
 K = 8
@@ -22,7 +24,10 @@ RANDOM_ACCESS = [
     (8, 0, [-8, -10, -12, -16], 4), (4, 1, [-4, -6, 4], 2), (2, 2, [-2, -4, 2, 6], 2), (1, 3, [-1, 1, 3, 7], 2),
     (3, 3, [-1, -3, 1, 5], 2), (6, 2, [-2, -4, -6, 2], 2), (5, 3, [-1, -5, 1, 3], 2), (7, 3, [-1, -3, -7, 1], 2),
 ]
-LOW_DELAY = [(1, 0, [-1, -5, -9, -13], 4), (2, 0, [-1, -2, -6, -10], 4), (3, 0, [-1, -3, -7, -11], 4), (4, 0, [-1, -4, -8, -12], 4)]
+LOW_DELAY = [
+    (1, 0, [-1, -5, -9, -13], 4), (2, 0, [-1, -2, -6, -10], 4),
+    (3, 0, [-1, -3, -7, -11], 4), (4, 0, [-1, -4, -8, -12], 4),
+]
 
 
 class Camera:
@@ -54,7 +59,7 @@ class Camera:
 
 
 def encoded(camera, group, kind, limits):
-    """Periods of groups without end; a picture refers to what its set names and an earlier one of the period has kept."""
+    """Periods of groups without end; a picture refers to what its set names and an earlier one of its period has."""
     yield camera.send(configure_bytes(K, *limits))
     while True:
         yield from camera.start()

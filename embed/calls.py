@@ -1,18 +1,16 @@
 #!/usr/bin/env python3
-"""calls.py FOLDER: writes each recording of vectors/*.txt and examples/*.txt as a file of calls, FOLDER/vectors-NAME.calls or FOLDER/examples-NAME.calls.
+"""calls.py FOLDER: writes each recording of recordings/vectors and recordings/examples as a file of calls,
+FOLDER/vectors-NAME.calls or FOLDER/examples-NAME.calls.
 
-A file of calls has, for each call, the record's length as a u32, the record, the length of the reply that is expected as a u32, and that reply;
-little-endian. What is expected is what the text says.
+A file of calls has, for each call, the record's length as a u32, the record, the length of the reply that is expected
+as a u32, and that reply; little-endian. What is expected is what the text says.
 """
 import pathlib
 import struct
 import sys
 
-ROOT = pathlib.Path(__file__).resolve().parent.parent
-sys.path.insert(0, str(ROOT / "tools"))
-
-import records  # noqa: E402
-import recordings  # noqa: E402
+sys.path.insert(0, str(pathlib.Path(__file__).resolve().parent.parent / "tools"))
+from lib import records, recordings
 
 
 def counted(data):
@@ -20,14 +18,15 @@ def counted(data):
 
 
 def main(folder):
-    for source in ["vectors", "examples"]:
+    for source in [recordings.VECTORS, recordings.EXAMPLES]:
         try:
-            found = recordings.read(ROOT / source)
+            found = recordings.read(source)
         except records.Bad as bad:
-            sys.exit(f"calls.py: {source}: {bad}")
+            sys.exit(f"calls.py: {source.name}: {bad}")
         for recording in found:
-            calls = b"".join(counted(said) + counted(answered) for said, answered in zip(recording.said, recording.answered, strict=True))
-            (pathlib.Path(folder) / f"{source}-{recording.name}.calls").write_bytes(calls)
+            pairs = zip(recording.said, recording.answered, strict=True)
+            calls = b"".join(counted(said) + counted(answered) for said, answered in pairs)
+            (pathlib.Path(folder) / f"{source.name}-{recording.name}.calls").write_bytes(calls)
 
 
 if __name__ == "__main__":

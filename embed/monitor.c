@@ -1,6 +1,8 @@
-/* monitor CALLS..: a small monitor. Each file is a guest with a session of its own; the guests say their records in turn, one each, until all have said theirs.
- * Every reply is compared with the file's (calls.py has the form of a file). Besides, after each call:
- * - a refused record has left every byte of its guest's session as it was, so that a guest that joins where it cannot start loses nothing;
+/* monitor CALLS..: a small monitor. Each file is a guest with a session of its own; the guests say their records in
+ * turn, one each, until all have said theirs. Every reply is compared with the file's (calls.py has the form of a file).
+ * Besides, after each call:
+ * - a refused record has left every byte of its guest's session as it was, so that a guest that joins where it cannot
+ *   start loses nothing;
  * - the sessions of all other guests are as they were;
  * - the reply buffer behind the reply is as it was.
  * The status is 1 where anything differs. */
@@ -131,13 +133,15 @@ int main(int count, char **names)
             unsigned number = serve(&guest[i], &session[i]);
             if (number >= NUMBERS)
                 fail("%s: number %u", guest[i].name, number);
-            if (memcmp(before, session, i * sizeof *session) || memcmp(before + i + 1, session + i + 1, (guests - i - 1) * sizeof *session))
+            if (memcmp(before, session, i * sizeof *session) ||
+                memcmp(before + i + 1, session + i + 1, (guests - i - 1) * sizeof *session))
                 fail("%s: a call changed another guest's session", guest[i].name);
             refused[number]++;
             calls++;
             more = 1;
         }
     }
-    printf("monitor: %zu guests, %zu calls, %zu refused, of them with 10:%zu; every reply as expected\n", guests, calls, calls - refused[0], refused[10]);
+    printf("monitor: %zu guests, %zu calls, %zu refused, of them with 10:%zu; every reply as expected\n",
+           guests, calls, calls - refused[0], refused[10]);
     return 0;
 }

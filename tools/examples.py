@@ -1,24 +1,20 @@
 #!/usr/bin/env python3
-"""The examples: examples/*.txt with their bytes, and those in docs/DIFFERENCES.md.
+"""The examples: recordings/examples/*.txt with their bytes, and those in docs/DIFFERENCES.md.
 
     examples.py            check them (status 1: something is wrong)
-    examples.py --write    write examples/NAME.records and NAME.replies from examples/NAME.txt
+    examples.py --write    write NAME.records and NAME.replies from NAME.txt
 
-Each file of examples/ has one recording of its own name (recordings.py has the form); NAME.records and NAME.replies are its bytes, and
-model.py answers alike. In docs/DIFFERENCES.md an example is an indented block of `> RECORD` and `< REPLY` lines; where it has no configure
-of its own, the one that the document names comes first, and each reply that stands behind a record must be model.py's.
+Each text has one recording of its file's name (lib/recordings.py has the form); NAME.records and NAME.replies are its
+bytes, and the model answers alike. In docs/DIFFERENCES.md an example is an indented block of `> RECORD` and `< REPLY`
+lines; where it has no configure of its own, the one that the document names comes first, and each reply that stands
+behind a record must be the model's.
 """
-import pathlib
 import re
 import sys
 
-import model
-import records
-import recordings
+from lib import model, records, recordings
 
-ROOT = pathlib.Path(__file__).resolve().parent.parent
-EXAMPLES = ROOT / "examples"
-DOCUMENT = ROOT / "docs" / "DIFFERENCES.md"
+DOCUMENT = recordings.ROOT / "docs" / "DIFFERENCES.md"
 FIRST = "configure k=4 capacity=4 buffering=4 reorder=1 latency=0"
 
 
@@ -51,7 +47,8 @@ def document_faults():
 
 
 def files_of(recording):
-    return [(EXAMPLES / f"{recording.name}.{end}", b"".join(parts)) for end, parts in (("records", recording.said), ("replies", recording.answered))]
+    ends = (("records", recording.said), ("replies", recording.answered))
+    return [(recordings.EXAMPLES / f"{recording.name}.{end}", b"".join(parts)) for end, parts in ends]
 
 
 def example_faults(found):
@@ -71,7 +68,7 @@ def main(arguments):
         print(__doc__, file=sys.stderr)
         return 2
     try:
-        found = recordings.read(EXAMPLES)
+        found = recordings.read(recordings.EXAMPLES)
     except records.Bad as bad:
         print(f"examples.py: {bad}", file=sys.stderr)
         return 2

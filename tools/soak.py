@@ -3,10 +3,11 @@
 
     soak.py [--records N] [--seed N] [--profile NAME] [--model] COMMAND...
 
-For each profile of generate.py one long recording and some short ones go to COMMAND (./run replay), each in a process of its own. Every record must get
-one reply, and ledger.py must find no fault: every picture with output flag 1 is exactly one of current, waiting, handed out once, thrown away by a named
-call; every begin's surface is still held or was released exactly once; every list names only the current picture, missing entries and stored pictures
-whose surfaces are unreleased. With --model each reply must also be model.py's. Status 1 at the first fault.
+For each profile of generate.py one long recording and some short ones go to COMMAND (./run replay), each in a process
+of its own. Every record must get one reply, and lib/ledger.py must find no fault: every picture with output flag 1 is
+exactly one of current, waiting, handed out once, thrown away by a named call; every begin's surface is still held or
+was released exactly once; every list names only the current picture, missing entries and stored pictures whose surfaces
+are unreleased. With --model each reply must also be the model's. Status 1 at the first fault.
 """
 import argparse
 import struct
@@ -16,10 +17,7 @@ import threading
 import time
 from collections import Counter, deque
 
-import generate
-import ledger
-import model
-import records
+from lib import generate, ledger, model, records
 
 SHORT = 400
 CLIMB = 145000
@@ -90,7 +88,8 @@ class Checker:
         if self.session is not None:
             wanted = self.session.step(record)[1]
             if wanted != reply:
-                return f"record {self.count - 1}: {shown(record, reply)}\n  model: {records.reply_text(records.reply_of(wanted))}"
+                said = records.reply_text(records.reply_of(wanted))
+                return f"record {self.count - 1}: {shown(record, reply)}\n  model: {said}"
         return None
 
 
@@ -148,7 +147,8 @@ def main():
             sums.update(checker.ledger.sums)
         print(f"{profile}: {count} records so far, {time.time() - started:.0f} s", flush=True)
     words = ", ".join(f"{value} {name}" for name, value in sums.items())
-    print(f"{recordings} recordings, {count} records, every reply in order{' and the model’s' if arguments.model else ''}; pictures: {words}")
+    alike = " and the model’s" if arguments.model else ""
+    print(f"{recordings} recordings, {count} records, every reply in order{alike}; pictures: {words}")
     return 0
 
 

@@ -1,24 +1,19 @@
 #!/usr/bin/env python3
-"""The recordings of vectors/*.txt: each reply that they ask for is well formed, and model.py gives it (status 1: some is not so).
+"""The recordings of recordings/vectors/*.txt: each reply that they ask for is well formed, and the model gives it
+(status 1: some is not so).
 
     vectors.py
 
-recordings.py has the form of a recording. test_replay.py asks the proved program for the same replies.
+lib/recordings.py has the form of a recording. tests/programs/test_replay.py asks the proved program for the same
+replies.
 """
-import pathlib
 import struct
 import sys
 
-import records
-import recordings
+from lib import records, recordings
 
-ROOT = pathlib.Path(__file__).resolve().parent.parent
 REPLY_LIMIT = 512
 MALFORMED = 511
-
-
-def read():
-    return recordings.read(ROOT / "vectors")
 
 
 def kind_at(data):
@@ -39,12 +34,14 @@ def main(arguments):
         print(__doc__, file=sys.stderr)
         return 2
     try:
-        found = read()
+        found = recordings.read(recordings.VECTORS)
     except records.Bad as bad:
         print(f"vectors.py: {bad}", file=sys.stderr)
         return 2
-    lines = [line for recording in found for check in (faults, recordings.model_differences) for line in check(recording)]
-    print("\n".join(lines + [f"{len(found)} recordings, {sum(len(r.said) for r in found)} records: " + ("not as they should be" if lines else "the model agrees")]))
+    checks = (faults, recordings.model_differences)
+    lines = [line for recording in found for check in checks for line in check(recording)]
+    count, end = sum(len(r.said) for r in found), "not as they should be" if lines else "the model agrees"
+    print("\n".join(lines + [f"{len(found)} recordings, {count} records: {end}"]))
     return 1 if lines or not found else 0
 
 

@@ -1,14 +1,18 @@
-/* A plugin for qemu-user that counts, exactly and with the same result at each run, the guest instructions that a program executes, by function and by
- * call, and the bytes that they read and write.
+/* A plugin for qemu-user that counts, exactly and with the same result at each run, the guest instructions that a
+ * program executes, by function and by call, and the bytes that they read and write.
  *
  *   qemu-x86_64 -plugin ./icount.so,out=FILE[,mem=1][,mark=STEP+END] program args
  *
  * FILE gets lines of TAB-separated fields:
  *   total  INSNS REPEATS READ WRITTEN PAGES         PAGES of 4,096 bytes were read or written (mem=1)
- *   fn     INSNS CALLS READ WRITTEN COPIES COPYING NAME    COPIES calls of memcpy and its like from here executed COPYING instructions
- *   call   INSNS READ WRITTEN                       from an entry of the function STEP to its next entry, or to that of END; in order
- * INSNS counts a `rep movs` once however often it repeats, as a processor's counter does; REPEATS has the repeats. CALLS is how often the lowest executed
- * address of a function was executed. One thread only: the counters are not atomic. */
+ *   fn     INSNS CALLS READ WRITTEN COPIES COPYING NAME
+ *                                                   COPIES calls of memcpy and its like from here executed COPYING
+ *                                                   instructions
+ *   call   INSNS READ WRITTEN                       from an entry of the function STEP to its next entry, or to that of
+ *                                                   END; in order
+ * INSNS counts a `rep movs` once however often it repeats, as a processor's counter does; REPEATS has the repeats.
+ * CALLS is how often the lowest executed address of a function was executed. One thread only: the counters are not
+ * atomic. */
 #include "qemu-plugin-v1.h"
 #include <stdio.h>
 #include <stdlib.h>
@@ -87,7 +91,8 @@ static int is_rep(const uint8_t *p, size_t n) {
     for (; i < n; i++) {
         uint8_t b = p[i];
         if (b == 0xf2 || b == 0xf3) rep = 1;
-        else if (b == 0x66 || b == 0x67 || b == 0x2e || b == 0x3e || b == 0x26 || b == 0x64 || b == 0x65 || b == 0x36) continue;
+        else if (b == 0x66 || b == 0x67 || b == 0x2e || b == 0x3e || b == 0x26 || b == 0x64 || b == 0x65 || b == 0x36)
+            continue;
         else break;
     }
     if (i < n && (p[i] & 0xf0) == 0x40) i++;      /* REX */
@@ -157,7 +162,8 @@ static void write_functions(FILE *f) {
         uint64_t n = 0, x = 0, r = 0, w = 0, entries = 0, c = 0, ci = 0;
         for (; j < m && !strcmp(all[j]->sym, all[i]->sym); j++) {
             if (all[j]->n && !entries) entries = all[j]->n - all[j]->repx;
-            n += all[j]->n; x += all[j]->repx; r += all[j]->rd; w += all[j]->wr; c += all[j]->copies; ci += all[j]->copying;
+            n += all[j]->n; x += all[j]->repx; r += all[j]->rd; w += all[j]->wr;
+            c += all[j]->copies; ci += all[j]->copying;
         }
         fprintf(f, "fn\t%lu\t%lu\t%lu\t%lu\t%lu\t%lu\t%s\n", n - x, entries, r, w, c, ci, all[i]->sym);
     }

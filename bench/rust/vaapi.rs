@@ -1,11 +1,19 @@
-//! The counted calls of the Rust. This file stands where compare/ has its harness, the VA-API backend's place, so it sees the private functions of `h265.rs`.
-//! Every record is laid ready as a parsed slice before the count; what is counted are the decoder's own calls, with a backend that does nothing, and the
-//! taking of its ready queue. No record is parsed and no reply is written.
+//! The counted calls of the Rust. This file stands where against-rust/ has its harness, the VA-API backend's place, so
+//! it sees the private functions of `h265.rs`, and takes from that harness how a record is laid ready (laid.rs) and
+//! that there are no frames (frame.rs). Every record is laid ready as a parsed slice before the count; what is counted
+//! are the decoder's own calls, with a backend that does nothing, and the taking of its ready queue. No record is
+//! parsed and no reply is written.
 //!
-//! Arguments: RECORDING ROUNDS [HANDED]. HANDED gets the serials handed out by each record, as u32 with 4,294,967,295 behind each record's.
+//! Arguments: RECORDING ROUNDS [HANDED]. HANDED gets the serials handed out by each record, as u32 with 4,294,967,295
+//! behind each record's.
+
+mod frame;
+mod laid;
 
 use std::rc::Rc;
-use std::sync::Arc;
+
+use frame::Frame;
+use laid::u16_at;
 
 use crate::backend::vaapi::Harness;
 use crate::backend::vaapi::Rust;
@@ -13,10 +21,8 @@ use crate::codec::h265::dpb::Dpb;
 use crate::codec::h265::parser::Nalu;
 use crate::codec::h265::parser::NaluType;
 use crate::codec::h265::parser::Pps;
-use crate::codec::h265::parser::PpsSccExtension;
 use crate::codec::h265::parser::Slice;
 use crate::codec::h265::parser::SliceHeader;
-use crate::codec::h265::parser::SliceType;
 use crate::codec::h265::parser::Sps;
 use crate::codec::h265::picture::PictureData;
 use crate::decoder::stateless::h265::CurrentPicState;
@@ -30,13 +36,7 @@ use crate::decoder::stateless::StatelessDecoder;
 use crate::decoder::stateless::StatelessDecoderBackend;
 use crate::decoder::stateless::StatelessDecoderBackendPicture;
 use crate::decoder::BlockingMode;
-use crate::decoder::DecodedHandle;
 use crate::decoder::StreamInfo;
-use crate::video_frame::ReadMapping;
-use crate::video_frame::VideoFrame;
-use crate::video_frame::WriteMapping;
-use crate::Fourcc;
-use crate::Resolution;
 
 type Decoder = StatelessDecoder<H265, Bare>;
 
@@ -119,19 +119,13 @@ fn configure(decoder: &mut Decoder, sps: &Sps) {
     decoder.apply_sps(sps).unwrap();
     decoder.codec.parser.laid_sps = Some(sps.clone());
     decoder.process_nalu(0, Nalu::of(NaluType::SpsNut, 0), &mut || None).unwrap();
-    let scc_extension = PpsSccExtension { curr_pic_ref_enabled_flag: false };
-    let sps = Rc::new(sps.clone());
-    let pps = Pps { pic_parameter_set_id: 0, seq_parameter_set_id: 0, scc_extension_flag: false, scc_extension, sps };
-    decoder.codec.parser.laid_pps = Some(pps);
+    decoder.codec.parser.laid_pps = Some(laid::pps_of(laid::PLAIN, false, &Rc::new(sps.clone())));
     decoder.process_nalu(0, Nalu::of(NaluType::PpsNut, 0), &mut || None).unwrap();
 }
 
 // ---- records laid ready
 
-fn u16_at(bytes: &[u8], at: usize) -> u16 {
-    u16::from_le_bytes(bytes[at..at + 2].try_into().unwrap())
-}
-
+/// What is counted has no long-term entries and no modified lists.
 fn prepare(records: &[u8]) -> Vec<Call> {
     let (mut calls, mut at, mut header) = (Vec::new(), 0, SliceHeader::default());
     while at < records.len() {
@@ -139,67 +133,22 @@ fn prepare(records: &[u8]) -> Vec<Call> {
         let body = &records[at + 4..at + 4 + length];
         at += 4 + length;
         calls.push(match kind {
-            1 => Call::Configure(sps_of(body)),
+            1 => Call::Configure(laid::sps_of(body)),
             2 => {
-                header = header_of(body);
-                let type_ = NaluType::SLICES.into_iter().find(|&t| t as u8 == body[0]).unwrap();
-                Call::Begin(Slice { header: header.clone(), nalu: Nalu::of(type_, body[1]) })
+                assert_eq!(body[11], 0, "long-term entries are not counted");
+                header = laid::header_of(body);
+                Call::Begin(Slice { header: header.clone(), nalu: laid::nalu_of(body).unwrap() })
             }
-            3 => Call::Lists(Slice { header: slice_of(&header, body), nalu: Nalu::of(NaluType::TrailR, 0) }),
+            3 => {
+                assert_eq!(body[1], 0, "modified lists are not counted");
+                Call::Lists(Slice { header: laid::slice_of(&header, body), nalu: Nalu::of(NaluType::TrailR, 0) })
+            }
             4 => Call::Finish,
             5 => Call::Drain,
             _ => panic!("no such call in what is counted"),
         });
     }
     calls
-}
-
-fn sps_of(body: &[u8]) -> Sps {
-    Sps {
-        log2_max_pic_order_cnt_lsb_minus4: body[0] - 4,
-        capacity: body[1].into(),
-        max_dec_pic_buffering_minus1: [body[2] - 1; 7],
-        max_num_reorder_pics: [body[3]; 7],
-        max_latency_increase_plus1: [u16_at(body, 4); 7],
-        ..Default::default()
-    }
-}
-
-/// A begin record without long-term entries as the first slice's header; what is counted has no others.
-fn header_of(body: &[u8]) -> SliceHeader {
-    assert_eq!(body[11], 0, "long-term entries are not counted");
-    let neg = body[9] as usize;
-    let mut header = SliceHeader {
-        first_slice_segment_in_pic_flag: true,
-        pic_output_flag: body[2] & 1 != 0,
-        no_output_of_prior_pics_flag: body[2] & 2 != 0,
-        pic_order_cnt_lsb: u16_at(body, 3),
-        ..Default::default()
-    };
-    let st = &mut header.short_term_ref_pic_set;
-    (st.num_negative_pics, st.num_positive_pics) = (body[9], body[10]);
-    for (i, entry) in body[12..].chunks(5).enumerate() {
-        let (delta, used) = (i32::from_le_bytes(entry[..4].try_into().unwrap()), entry[4] != 0);
-        if i < neg {
-            (st.delta_poc_s0[i], st.used_by_curr_pic_s0[i]) = (delta, used);
-        } else {
-            (st.delta_poc_s1[i - neg], st.used_by_curr_pic_s1[i - neg]) = (delta, used);
-        }
-        header.num_pic_total_curr += u32::from(used);
-    }
-    header
-}
-
-/// A lists record without modification as a slice header of the same picture.
-fn slice_of(first: &SliceHeader, body: &[u8]) -> SliceHeader {
-    assert_eq!(body[1], 0, "modified lists are not counted");
-    SliceHeader {
-        first_slice_segment_in_pic_flag: false,
-        type_: [SliceType::B, SliceType::P, SliceType::I][body[0] as usize],
-        num_ref_idx_l0_active_minus1: body[2].saturating_sub(1),
-        num_ref_idx_l1_active_minus1: body[3].saturating_sub(1),
-        ..first.clone()
-    }
 }
 
 // ---- a backend that does nothing
@@ -267,69 +216,5 @@ impl StatelessH265DecoderBackend for Bare {
 
     fn submit_picture(&mut self, picture: Handle) -> StatelessBackendResult<Handle> {
         Ok(picture)
-    }
-}
-
-#[derive(Debug)]
-struct Frame;
-
-impl DecodedHandle for Handle {
-    type Frame = Frame;
-
-    fn video_frame(&self) -> Arc<Frame> {
-        Arc::new(Frame)
-    }
-
-    fn timestamp(&self) -> u64 {
-        0
-    }
-
-    fn coded_resolution(&self) -> Resolution {
-        Resolution::default()
-    }
-
-    fn display_resolution(&self) -> Resolution {
-        Resolution::default()
-    }
-
-    fn is_ready(&self) -> bool {
-        true
-    }
-
-    fn sync(&self) -> anyhow::Result<()> {
-        Ok(())
-    }
-}
-
-impl VideoFrame for Frame {
-    type MemDescriptor = ();
-    type NativeHandle = libva::Surface<()>;
-
-    fn fourcc(&self) -> Fourcc {
-        Fourcc::default()
-    }
-
-    fn resolution(&self) -> Resolution {
-        Resolution::default()
-    }
-
-    fn get_plane_size(&self) -> Vec<usize> {
-        vec![]
-    }
-
-    fn get_plane_pitch(&self) -> Vec<usize> {
-        vec![]
-    }
-
-    fn map<'a>(&'a self) -> Result<Box<dyn ReadMapping<'a> + 'a>, String> {
-        Err("no frame".into())
-    }
-
-    fn map_mut<'a>(&'a mut self) -> Result<Box<dyn WriteMapping<'a> + 'a>, String> {
-        Err("no frame".into())
-    }
-
-    fn to_native_handle(&self, _: &Rc<libva::Display>) -> Result<libva::Surface<()>, String> {
-        Err("no frame".into())
     }
 }

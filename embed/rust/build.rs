@@ -1,4 +1,5 @@
-// Links libembed.a, which `rt staticlib embed` makes: from TRUSSHEMP_LIB where that is set, else from the repository's target/staticlib.
+// Links libembed.a, which `rt staticlib embed` makes: from TRUSSHEMP_LIB where that is set, else from the repository's
+// target/staticlib.
 use std::env;
 use std::path::PathBuf;
 

@@ -5,7 +5,7 @@ use Prim.Native.Nat.{ℕ, _<_, _≤_}
 use native.Mathlib.Omega.{arith}
 use lib.Dec.{leb}
 use Rattle.paper.specs.Words.{anyB}
-use Rattle.derivation.specs.declared.rows.RefList.{RefList}
+use Rattle.derivation.specs.declared.ref_lists.RefList.{RefList}
 use Rattle.derivation.proofs.Pad.{one-array}
 use Rattle.derivation.proofs.Runs.{count-is, table-get, placed-is, can-fill}
 use mathlib.Core.Bool.{Bool, true, false}

@@ -12,10 +12,10 @@ use Rattle.paper.specs.Sets.{wishIn32}
 use Rattle.derivation.specs.Answers.{narrowOf, pocAnswer, wantedOf, numberOfNarrow, numberOfPoc, numberOfWanted, valuesOfNarrow, valuesOfPoc, valuesOfWanted}
 use Rattle.derivation.specs.declared.modular.Narrow.{Narrow}
 use Rattle.derivation.specs.declared.modular.Narrow.the-variants as N
-use Rattle.derivation.specs.declared.order.Poc.{Poc}
-use Rattle.derivation.specs.declared.order.Poc.the-variants as P
-use Rattle.derivation.specs.declared.wishing.Wanted.{Wanted}
-use Rattle.derivation.specs.declared.wishing.Wanted.the-variants as W
+use Rattle.derivation.specs.declared.poc.Poc.{Poc}
+use Rattle.derivation.specs.declared.poc.Poc.the-variants as P
+use Rattle.derivation.specs.declared.wishes.Wanted.{Wanted}
+use Rattle.derivation.specs.declared.wishes.Wanted.the-variants as W
 
 -- an answer that is one value with number 0 and values vs if a test holds, and else another with number 6
 says : {A B : Type 0} (number : A → ℕ) (values : A → List B) (inside outside : A) (vs : List B) → number inside ≡ 0 → number outside ≡ 6 → values inside ≡ vs

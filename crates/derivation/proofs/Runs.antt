@@ -19,8 +19,8 @@ use Rattle.paper.specs.RefLists.{ownOf, candidates0, candidates1, placed}
 use Rattle.paper.proofs.Bools.{split, both, left, right, or-left, or-right}
 use Rattle.paper.proofs.Fits.{table-length}
 use Rattle.paper.proofs.Places.{at-cons, at-end}
-use Rattle.derivation.specs.declared.rows.Refs.{Refs}
-use Rattle.derivation.specs.declared.rows.RefList.{RefList}
+use Rattle.derivation.specs.declared.ref_lists.Refs.{Refs}
+use Rattle.derivation.specs.declared.ref_lists.RefList.{RefList}
 use Rattle.derivation.specs.Pad.{Padded}
 use Rattle.derivation.specs.Lists.{refsIn, blankSerial, serialAt, serialsIn, HoldsList, noList, candidatesOf, swappedAt, placeIn, askOf, withLast, canFill, placeOf, builtOf, CandidateCount}
 use Rattle.derivation.proofs.Pad.{is-push, is-set}

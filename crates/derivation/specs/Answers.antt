@@ -9,10 +9,10 @@ use Rattle.paper.specs.Poc.{msbOf, pocOf, in32}
 use Rattle.paper.specs.Sets.{wishIn32}
 use Rattle.derivation.specs.declared.modular.Narrow.{Narrow}
 use Rattle.derivation.specs.declared.modular.Narrow.the-variants as N
-use Rattle.derivation.specs.declared.order.Poc.{Poc}
-use Rattle.derivation.specs.declared.order.Poc.the-variants as P
-use Rattle.derivation.specs.declared.wishing.Wanted.{Wanted}
-use Rattle.derivation.specs.declared.wishing.Wanted.the-variants as W
+use Rattle.derivation.specs.declared.poc.Poc.{Poc}
+use Rattle.derivation.specs.declared.poc.Poc.the-variants as P
+use Rattle.derivation.specs.declared.wishes.Wanted.{Wanted}
+use Rattle.derivation.specs.declared.wishes.Wanted.the-variants as W
 
 abbrev pub narrowOf : ℤ → Narrow
 narrowOf z = cond (in32 z) (N.In z) N.Outside

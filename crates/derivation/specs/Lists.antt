@@ -12,8 +12,8 @@ use Rattle.paper.specs.State as State
 use Rattle.paper.specs.Records.{ListAsk}
 use Rattle.paper.specs.RefLists.{candidates0, candidates1, placed}
 use Rattle.derivation.specs.Pad.{Padded}
-use Rattle.derivation.specs.declared.rows.Refs.{Refs}
-use Rattle.derivation.specs.declared.rows.RefList.{RefList}
+use Rattle.derivation.specs.declared.ref_lists.Refs.{Refs}
+use Rattle.derivation.specs.declared.ref_lists.RefList.{RefList}
 
 abbrev pub blankSerial : Serial
 blankSerial = record { 0 = 0 }

@@ -1,12 +1,12 @@
 // The derivation layer: what a record's numbers say, by themselves. It knows of no store and of no record's bytes.
 pub mod flag_bytes;
+pub mod members;
 pub mod modular;
 pub mod nal;
-pub mod order;
+pub mod poc;
 pub mod ranges;
-pub mod rows;
-pub mod run;
-pub mod wishing;
+pub mod ref_lists;
+pub mod wishes;
 
 ghost use mathlib.Core.Path.{_≡_};
 ghost use Prim.Native.Nat.{min};

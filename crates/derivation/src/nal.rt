@@ -5,7 +5,8 @@ ghost use lib.Dec.{eqb};
 ghost use Rattle.paper.specs.Words.{anyB};
 ghost use Rattle.paper.specs.Nal.{irap, idr, taken, subLayerNonReference};
 ghost use Rattle.paper.specs.Flags.{noRaslOutput, picOutput, noPriorOutput, validPrev};
-ghost use Rattle.derivation.specs.Classes.{classOf, typesOf, irapIn, idrIn, takenIn, craIn, raslIn, noRaslIn, prevIn};
+ghost use Rattle.derivation.specs.Classes.{classOf, typesOf, irapIn, idrIn, takenIn, craIn, raslIn, noRaslIn};
+ghost use Rattle.derivation.specs.Classes.{prevIn};
 ghost use Rattle.derivation.specs.declared.nal.NalClass.{NalClass};
 
 // The class of a NAL type; `Refused` is a type that is not taken.

@@ -1,5 +1,6 @@
-// A session in memory that a host lends, for C and Rust. The memory is three runs of words of 32 bits: what they hold is no business of the host's, and any
-// words are taken as some session, so that no value of them does harm. A call changes them where they stand.
+// A session in memory that a host lends, for C and Rust. The memory is three runs of words of 32 bits: what they hold
+// is no business of the host's, and any words are taken as some session, so that no value of them does harm. A call
+// changes them where they stand.
 ghost use mathlib.Core.Path.{_≡_};
 ghost use Prim.Native.Nat.{_*_};
 ghost use lib.ListN.{replicate};
@@ -25,15 +26,16 @@ pub extern "C" fn trusshemp_fresh_in(
     sets: &mut [u32; Store::CAPACITY],
     places: &mut [u32; Store::WORDS],
 )
-    ensures session { λ _. ⌜ sessionIn (memory (now (head .exit)) (now (sets .exit)) (now (places .exit))) ≡ freshSession ⌝ }
+    ensures session { λ _. ⌜ sessionIn
+        (memory (now (head .exit)) (now (sets .exit)) (now (places .exit))) ≡ freshSession ⌝ }
     ensures normal { λ _. ⌜ NormalMemory (memory (now (head .exit)) (now (sets .exit)) (now (places .exit))) ⌝ }
     ensures blank { λ _. ⌜ now (sets .exit) ≡ replicate 16 0 ⌝ }
 {
     session::fresh(head, sets, places);
 }
 
-// One call: the record gets its reply, `length` the reply's length in bytes, and the answer is the refusal number, 0 when accepted. A refused record leaves
-// the memory as it was.
+// One call: the record gets its reply, `length` the reply's length in bytes, and the answer is the refusal number, 0
+// when accepted. A refused record leaves the memory as it was.
 #[no_mangle]
 pub extern "C" fn trusshemp_step_in(
     head: &mut [u32; HEAD],
@@ -43,7 +45,9 @@ pub extern "C" fn trusshemp_step_in(
     reply: &mut [u8],
     length: &mut usize,
 ) -> u16
-    ensures { λ r. ⌜ Stepped (memory (now (head .entry)) (now (sets .entry)) (now (places .entry))) (now (msg .entry)) (now (reply .entry)) r (now (length .exit)) (memory (now (head .exit)) (now (sets .exit)) (now (places .exit))) (now (reply .exit)) ⌝ }
+    ensures { λ r. ⌜ Stepped (memory (now (head .entry)) (now (sets .entry)) (now (places .entry))) (now (msg .entry))
+        (now (reply .entry)) r (now (length .exit)) (memory (now (head .exit)) (now (sets .exit)) (now (places .exit)))
+        (now (reply .exit)) ⌝ }
 {
     let a = session::step(head, sets, places, msg, reply);
     *length = a.len;

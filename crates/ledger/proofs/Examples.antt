@@ -6,7 +6,7 @@ use Rattle.paper.specs.Words.{first}
 use Rattle.paper.specs.WholeReply.{wholeReply, replyEnd}
 use Rattle.paper.specs.Ledger.{heard, tell, readReply}
 use Rattle.paper.specs.Watch.{replyPart, partOf, watched}
-use Rattle.framing.specs.Cut.{partsIn}
+use Rattle.format.specs.Cut.{partsIn}
 use Rattle.ledger.specs.Verdict.{judgedOf, judged}
 
 -- a drain, and its refusal with number 9

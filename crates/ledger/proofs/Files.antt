@@ -21,11 +21,11 @@ use Rattle.paper.proofs.Ways.{first-none, yes-of}
 use Rattle.paper.proofs.Between.{in-order-kept}
 use Rattle.paper.proofs.Watching.{watched-sound}
 use Rattle.paper.proofs.Unbroken.{watched-session}
-use Rattle.paper.proofs.Demand3.{sound-fresh}
-use Rattle.framing.specs.Cut.{Parts, joined, isWhole, cut, restOf}
-use Rattle.framing.proofs.Cutting.{one-cut, is-cut, all-parts, all-joined}
+use Rattle.paper.proofs.LedgerTold.{sound-fresh}
+use Rattle.format.specs.Cut.{Parts, joined, isWhole, cut, restOf}
+use Rattle.format.proofs.Cutting.{one-cut, is-cut, all-parts, all-joined}
 use Rattle.watch.proofs.Far.{length-none}
-use Rattle.watch.proofs.Exchanges.{watched-even}
+use Rattle.watch.proofs.ExchangeLaws.{watched-even}
 use Rattle.ledger.specs.Verdict.{exchanged, lastPart, judgedOf, judged}
 
 -- as many records as replies: as far as both go is all of them

@@ -1,7 +1,7 @@
 -- Turn after turn: what was read so far is judged so far, until the run ends with the answer.
 use Prim.Native.Nat.{ℕ}
 use mathlib.Core.Path.{_≡_, refl, sym, ap, _∙_}
-use mathlib.Core.List.{List, [], _∷_, _++_}
+use mathlib.Core.List.{List, [], _++_}
 use mathlib.Core.Bool.{true, false}
 use lib.Dec.{ltb}
 use lib.IntN.{ℤ}
@@ -11,9 +11,9 @@ use Rattle.paper.specs.State.{fresh}
 use Rattle.paper.specs.Step.{replies}
 use Rattle.paper.specs.Watch.{watched}
 use Rattle.paper.proofs.Bools.{not-both}
-use Rattle.framing.specs.Cut.{joined, cut}
-use Rattle.framing.specs.Turns.{Ran, through}
-use Rattle.framing.proofs.Running.{Reached}
+use Rattle.format.specs.Cut.{joined, cut}
+use Rattle.stream.specs.Turns.{through}
+use Rattle.stream.proofs.Running.{Reached, by-turns}
 use Rattle.watch.specs.Pairs.{tallyAll}
 use Rattle.ledger.specs.declared.Feed.{Feed}
 use Rattle.ledger.specs.Verdict.{judged}
@@ -37,24 +37,17 @@ nothing-read {s = s} b =
       book = b .book;
     }
 
-module _ (x y : ℤ) where
-  -- what the turns brought is judged so far, while the run goes on
-  so-far : (turns : List Stand) (s : Stand) → Ran (Starts x y) Turning turns s → s .state .more ≡ true
-      → Judging (s .state) (s .records) (s .replies) (through recordsIn turns s) (through repliesIn turns s)
-  unfolding Ran through
-  so-far [] s g m = nothing-read g
-  so-far (b ∷ earlier) s g m =
-      let t = g .1 in
-      t .1 .keeps .goes-on (through recordsIn earlier b) (through repliesIn earlier b) (so-far earlier b (g .0) (t .0)) m
+-- what the turns brought is judged so far, while the run goes on, and where it ended it is the answer
+record Told (R A : List ℕ) (s : Stand) : Type 0 where
+  on : s .state .more ≡ true → Judging (s .state) (s .records) (s .replies) R A
+  end : s .state .more ≡ false → s .state .records .failed ≡ false → s .state .replies .failed ≡ false → Settled (s .state) R A
 
-  -- and where it ended, it is the answer
-  the-end : (turns : List Stand) (s : Stand) → Ran (Starts x y) Turning turns s → s .state .more ≡ false → s .state .records .failed ≡ false → s .state .replies .failed ≡ false
-      → Settled (s .state) (through recordsIn turns s) (through repliesIn turns s)
-  unfolding Ran through
-  the-end [] s g m a b = not-both (s .state .more) (g .more) m
-  the-end (b ∷ earlier) s g m p q =
-      let t = g .1 in
-      t .1 .keeps .ends (through recordsIn earlier b) (through repliesIn earlier b) (so-far earlier b (g .0) (t .0)) m p q
+told-on : (R A : List ℕ) (b s : Stand) → Told R A b → Turning b s → Told (R ++ recordsIn b s) (A ++ repliesIn b s) s
+told-on R A b s g t = let j = g .on (t .0) in record { on = t .1 .keeps .goes-on R A j; end = t .1 .keeps .ends R A j }
+
+module _ (x y : ℤ) where
+  told-none : (s : Stand) → Starts x y s → Told [] [] s
+  told-none s b = record { on = λ _. nothing-read b; end = λ m p q. not-both (s .state .more) (b .more) m }
 
   -- THE WHOLE RUN
   pub judges : (s : Stand) → Reached (Starts x y) Turning s → Judges x y s
@@ -67,7 +60,7 @@ module _ (x y : ℤ) where
         ran = r .ran;
         read = refl;
         heard = refl;
-        answer = the-end turns s (r .ran);
+        answer = by-turns recordsIn repliesIn Told told-none told-on turns s (r .ran) .end;
       }
 
 -- ---- the theorem of the program

@@ -1,44 +1,33 @@
 -- Exchanges that are heard are cut off in front, and what waits behind them is moved to the start: all that was read is still there.
-use Prim.Native.Nat.{ℕ, _+_, _-_, _≤_, _<_, min}
+use Prim.Native.Nat.{ℕ, _+_, _-_, _≤_, min}
 use mathlib.Core.Path.{_≡_, refl, sym, ap, ap₂, subst, _∙_}
-use mathlib.Core.List.{List, [], _∷_, _++_, append-assoc}
+use mathlib.Core.List.{List, [], _++_, append-assoc}
 use mathlib.Core.Bool.{true, false, _&&_, _||_}
 use native.Mathlib.Omega.{arith}
 use lib.Dec.{ltb, eqb}
-use lib.ListN.{length, take, drop, length-append, length-drop, take-append-drop}
-use lib.Seq.{paste, take-all, take-append-add, length-take-le, length-paste}
-use borrow.Author.Tests.{eqb-true, eqb-false, le-ltb, ltb-false}
-use Rattle.paper.specs.Words.{allB}
-use Rattle.paper.specs.Records.{lengthOf}
+use lib.ListN.{length, take, drop, length-append, length-drop}
+use lib.Seq.{take-all, take-append-add, length-take-le, length-paste}
+use borrow.Author.Tests.{eqb-true, eqb-false, lt-ltb, le-ltb}
 use Rattle.paper.specs.Ledger.{blank}
 use Rattle.paper.specs.Watch.{Verdict, watched}
-use Rattle.paper.proofs.Bools.{split, left, not-both}
+use Rattle.paper.proofs.Bools.{split, not-both}
 use Rattle.paper.proofs.Bools as Bools
-use Rattle.framing.specs.Cut.{sizeOf, joined, isWhole, cut, restOf}
-use Rattle.framing.proofs.Fitting.{within}
-use Rattle.framing.proofs.Cutting.{joined-append, all-append, none-cut, some-joined}
-use Rattle.framing.proofs.Keeping.{cut-off, none-brought}
-use Rattle.watch.specs.declared.pairing.Paired.{Paired}
+use Rattle.format.specs.Cut.{sizeOf, joined, isWhole, cut, restOf}
+use Rattle.format.proofs.Fitting.{within}
+use Rattle.format.proofs.Cutting.{joined-on, all-append, none-whole, some-cut, front-whole}
+use Rattle.stream.specs.Turns.{shifted}
+use Rattle.stream.proofs.Keeping.{shifted-within, taken-off, none-brought}
+use Rattle.watch.specs.declared.exchanges.Paired.{Paired}
 use Rattle.watch.specs.Book.{bookIn, HoldsBook, noTally, most}
 use Rattle.watch.specs.Pairs.{tallyAll, Watches, WatchesAll}
 use Rattle.watch.proofs.Far.{length-none}
-use Rattle.watch.proofs.Exchanges.{watched-even, tally-append}
+use Rattle.watch.proofs.ExchangeLaws.{watched-even, tally-append}
 use Rattle.watch.proofs.Blocks.{next-block, next-place, next-book}
 use Rattle.ledger.specs.declared.Feed.{Feed}
 use Rattle.ledger.specs.declared.State.{State}
 use Rattle.ledger.specs.Verdict.{judged}
 use Rattle.ledger.specs.Turns.{brought, lessened, Judging, Says, Onward, Unread, exchangeWaits, Turned}
 use Rattle.ledger.proofs.Verdicts.{broken-stands, judged-front}
-use Rattle.ledger.proofs.Turning.{still-same}
-
--- whole records or replies of no bytes are none
-none-whole : (rs : List (List ℕ)) → allB isWhole rs ≡ true → [] ≡ joined rs → rs ≡ []
-unfolding joined allB
-none-whole [] w e = refl
-none-whole (r ∷ rs) w e =
-    let a : length r ≡ 4 + lengthOf r = eqb-true (length r) (4 + lengthOf r) (left (isWhole r) (allB isWhole rs) w) in
-    let b : 0 ≡ length r + length (joined rs) = ap length e ∙ length-append r (joined rs) in
-    absurd (omega arith)
 
 not-both-whole : (n m : ℕ) → (eqb n 0 || eqb m 0) ≡ true → (ltb 0 n && ltb 0 m) ≡ false
 not-both-whole n m h =
@@ -48,33 +37,17 @@ not-both-whole n m h =
 
 -- what was taken of a file joins what is in front of it
 cut-front : {all after : List ℕ} (f : Feed) (n : ℕ) (before : List ℕ) (rs qs : List (List ℕ)) → f .held ≤ length before → n ≤ f .held → take n (take (f .held) before) ≡ joined qs
-    → after ≡ paste before 0 (drop n before) (f .held - n) → all ≡ joined rs ++ take (f .held) before → all ++ brought f (lessened f n) after ≡ joined (rs ++ qs) ++ take (f .held - n) after
-cut-front {all} {after} f n before rs qs h k c e a =
-    let x = take (f .held - n) after in
-    still-same f (lessened f n) after (omega arith)
-    ∙ a
-    ∙ ap (λ (l : List ℕ). joined rs ++ l) (cut-off (joined qs) (f .held) before h k c e)
-    ∙ sym (append-assoc (joined rs) (joined qs) x)
-    ∙ ap (λ (l : List ℕ). l ++ x) (sym (joined-append rs qs))
+    → after ≡ shifted before n (f .held) → all ≡ joined rs ++ take (f .held) before → all ++ brought f (lessened f n) after ≡ joined (rs ++ qs) ++ take (f .held - n) after
+cut-front {after = after} f n before rs qs h k c e a =
+    joined-on rs qs (take (f .held) before) (brought f (lessened f n) after) (take (f .held - n) after) a (taken-off (joined qs) (f .held) before h k c e)
 
-onward-less : (f : Feed) (n : ℕ) (before after : List ℕ) → f .held ≤ length before → n ≤ f .held → after ≡ paste before 0 (drop n before) (f .held - n) → Onward f (lessened f n) after
+onward-less : (f : Feed) (n : ℕ) (before after : List ℕ) → f .held ≤ length before → n ≤ f .held → after ≡ shifted before n (f .held) → Onward f (lessened f n) after
 onward-less f n before after h k e =
-    let m : length after ≡ length before = ap length e ∙ length-paste before 0 (drop n before) (f .held - n) (omega arith) (simp length-drop (omega arith)) in
+    let m : length after ≡ length before = ap length (e ∙ shifted-within before n (f .held) h) ∙ length-paste before 0 (drop n before) (f .held - n) (omega arith) (simp length-drop (omega arith)) in
     record { fd = refl; within = omega arith; ended = λ _. none-brought (f .held) (f .held - n) after (omega arith) }
 
 unread-less : (f : Feed) (n : ℕ) (after : List ℕ) → Unread f (lessened f n) after
 unread-less f n after = record { none = none-brought (f .held) (f .held - n) after (omega arith); ended = refl; failed = refl }
-
--- whole ones that were taken in front are whole where they wait
-whole-waits : (n : ℕ) (l : List ℕ) (rs : List (List ℕ)) → allB isWhole rs ≡ true → take n l ≡ joined rs → 0 < length rs → ltb 0 (sizeOf l) ≡ true
-whole-waits n l rs w e h =
-    split (ltb 0 (sizeOf l))
-    (λ y. y)
-    (λ z.
-    let k = ltb-false 0 (sizeOf l) z in
-    let q : l ≡ joined rs ++ drop n l = sym (take-append-drop n l) ∙ ap (λ (x : List ℕ). x ++ drop n l) e in
-    let m = none-cut rs (drop n l) w (sym (ap sizeOf q) ∙ omega arith) in
-    absurd (omega arith))
 
 module _ {p : Paired} (s : State) (records replies : List ℕ) (h : s .records .held ≤ length records) (k : s .replies .held ≤ length replies)
     (g : WatchesAll (s .book) (take (s .records .held) records) (take (s .replies .held) replies) p) where
@@ -87,7 +60,7 @@ module _ {p : Paired} (s : State) (records replies : List ℕ) (h : s .records .
   none-taken z =
       let w = take (s .records .held) records in
       let v = take (s .replies .held) replies in
-      let a : heard .said ≡ [] = none-whole (heard .said) (heard .whole-said) (subst (λ (n : ℕ). take n w ≡ joined (heard .said)) z (heard .cut-said)) in
+      let a : heard .said ≡ [] = none-whole (heard .said) w (heard .whole-said) (heard .cut-said) z in
       let b : heard .answers ≡ [] = length-none (heard .answers) (sym (heard .even) ∙ ap length a) in
       let c : p .part ≡ 0 = heard .part ∙ ap₂ (λ (x y : List (List ℕ)). watched 0 (bookIn (s .book)) x y .part) a b in
       let d : length (take (p .answered) v) ≡ 0 = ap length (heard .cut-answers ∙ ap joined b) in
@@ -145,8 +118,8 @@ module _ {p : Paired} (s : State) (records replies : List ℕ) (h : s .records .
         ∙ ap (tallyAll noTally) (sym (take-append-add (j .answers) (heard .answers) (p .pairs)) ∙ ap (λ (x : ℕ). take x allAnswers) m) in
         subst (HoldsBook (p .book) (both .ledger)) u (next-book blank (j .said) (j .answers) (j .unbroken) (j .book) heard)
 
-    module _ {records′ replies′ : List ℕ} (a : records′ ≡ paste records 0 (drop (p .taken) records) (s .records .held - p .taken))
-        (b : replies′ ≡ paste replies 0 (drop (p .answered) replies) (s .replies .held - p .answered)) where
+    module _ {records′ replies′ : List ℕ} (a : records′ ≡ shifted records (p .taken) (s .records .held))
+        (b : replies′ ≡ shifted replies (p .answered) (s .replies .held)) where
       said-both : R ++ brought (s .records) (nextState .records) records′ ≡ joined allSaid ++ take (s .records .held - p .taken) records′
       said-both = cut-front (s .records) (p .taken) records (j .said) (heard .said) h taken-within (heard .cut-said) a (j .cut-said)
 
@@ -188,13 +161,14 @@ module _ {p : Paired} (s : State) (records replies : List ℕ) (h : s .records .
   some-taken n =
       let w = take (s .records .held) records in
       let v = take (s .replies .held) replies in
-      let e = length-take-le (p .taken) w (g .taken) in
-      let m = some-joined (heard .said) (heard .cut-said) (omega (arith, n)) in
-      Bools.both (whole-waits (p .taken) w (heard .said) (heard .whole-said) (heard .cut-said) m) (whole-waits (p .answered) v (heard .answers) (heard .whole-answers) (heard .cut-answers) (omega (arith, m, heard .even)))
+      let m = some-cut (heard .said) w (heard .cut-said) (g .taken) n in
+      let a = front-whole (p .taken) (heard .said) w (heard .whole-said) (heard .cut-said) m in
+      let b = front-whole (p .answered) (heard .answers) v (heard .whole-answers) (heard .cut-answers) (omega (arith, m, heard .even)) in
+      Bools.both (lt-ltb 0 (sizeOf w) a) (lt-ltb 0 (sizeOf v) b)
 
   -- A TURN THAT HEARS EXCHANGES
-  pub takes : {records′ replies′ : List ℕ} → records′ ≡ paste records 0 (drop (p .taken) records) (s .records .held - p .taken)
-      → replies′ ≡ paste replies 0 (drop (p .answered) replies) (s .replies .held - p .answered) → (p .taken ≡ 0 → ⊥) → Turned s records replies nextState records′ replies′
+  pub takes : {records′ replies′ : List ℕ} → records′ ≡ shifted records (p .taken) (s .records .held)
+      → replies′ ≡ shifted replies (p .answered) (s .replies .held) → (p .taken ≡ 0 → ⊥) → Turned s records replies nextState records′ replies′
   takes {records′} {replies′} a b n =
       record {
         keeps =

@@ -11,10 +11,10 @@ use borrow.Author.Tests.{eqb-true, lt-ltb, le-ltb, ltb-true, ltb-false}
 use Rattle.paper.specs.Words.{first}
 use Rattle.paper.specs.Ledger.{blank}
 use Rattle.paper.proofs.Bools.{not-both}
-use Rattle.framing.specs.Cut.{Parts, sizeOf, joined, parts, cut, restOf}
-use Rattle.framing.proofs.Cutting.{parts-none, cut-some}
-use Rattle.framing.proofs.Keeping.{none-brought, read-behind}
-use Rattle.watch.proofs.Exchanges.{watched-even}
+use Rattle.format.specs.Cut.{Parts, sizeOf, joined, parts, cut, restOf}
+use Rattle.format.proofs.Cutting.{parts-none, cut-some}
+use Rattle.stream.proofs.Keeping.{none-brought, read-so-far, still-same}
+use Rattle.watch.proofs.ExchangeLaws.{watched-even}
 use Rattle.ledger.specs.declared.Feed.{Feed}
 use Rattle.ledger.specs.declared.State.{State}
 use Rattle.ledger.specs.Moves.{moveOf}
@@ -24,33 +24,28 @@ use Rattle.ledger.proofs.Verdicts.{rest-decides, judged-front}
 
 -- ---- one file
 
-pub still-same : {all : List ℕ} (f r : Feed) (after : List ℕ) → r .held ≤ f .held → all ++ brought f r after ≡ all
-still-same {all} f r after h = ap (λ (l : List ℕ). all ++ l) (none-brought (f .held) (r .held) after h) ∙ append-nil all
-
 -- a file in a turn: it goes on, and what is read stands behind what waits
 record Side (f : Feed) (before : List ℕ) (r : Feed) (after : List ℕ) : Type 0 where
   onward : Onward f r after
   waits : (all front : List ℕ) → all ≡ front ++ take (f .held) before → all ++ brought f r after ≡ front ++ take (r .held) after
 
-side-fed : {f r : Feed} {before after : List ℕ} → Fed f before r after → Side f before r after
-side-fed {f} {r} {before} {after} g =
+side-fed : {f r : Feed} {before after : List ℕ} → f .held ≤ length before → Fed f before r after → Side f before r after
+side-fed {f} {r} {before} {after} h g =
     record {
       onward =
           record {
             fd = g .fd;
-            within = g .within;
+            within = g .read .within h;
             ended = λ e. let k = eqb-true (r .held) (f .held) (sym (g .ended) ∙ e) in none-brought (f .held) (r .held) after (omega arith);
           };
-      waits =
-          λ all front e.
-          ap (λ (l : List ℕ). l ++ brought f r after) e ∙ append-assoc front (take (f .held) before) (brought f r after) ∙ ap (λ (l : List ℕ). front ++ l) (read-behind (f .held) (r .held) before after (g .grows) (g .kept));
+      waits = λ all front. read-so-far front (f .held) (r .held) before after (g .read .grows) (g .read .kept);
     }
 
 side-same : (f : Feed) (l : List ℕ) → f .held ≤ length l → Side f l f l
 side-same f l h =
     record {
       onward = record { fd = refl; within = h; ended = λ e. none-brought (f .held) (f .held) l (omega arith) };
-      waits = λ all front e. still-same f f l (omega arith) ∙ e;
+      waits = λ all front e. still-same (f .held) (f .held) l (omega arith) ∙ e;
     }
 
 -- ---- what waits in a file, with whatever stands behind it
@@ -126,10 +121,10 @@ module _ (s : State) (records replies : List ℕ) (h : s .records .held ≤ leng
       }
 
   reads-records : {f : Feed} {after : List ℕ} → Fed (s .records) records f after → Next (stateOf s f (s .replies) 0 (not (f .failed))) after replies
-  reads-records {f} g = reads (not (f .failed)) (side-fed g) (side-same (s .replies) replies k) (λ m p q. not-both (not (f .failed)) (ap not p) m)
+  reads-records {f} g = reads (not (f .failed)) (side-fed h g) (side-same (s .replies) replies k) (λ m p q. not-both (not (f .failed)) (ap not p) m)
 
   reads-replies : {f : Feed} {after : List ℕ} → Fed (s .replies) replies f after → Next (stateOf s (s .records) f 0 (not (f .failed))) records after
-  reads-replies {f} g = reads (not (f .failed)) (side-same (s .records) records h) (side-fed g) (λ m p q. not-both (not (f .failed)) (ap not q) m)
+  reads-replies {f} g = reads (not (f .failed)) (side-same (s .records) records h) (side-fed k g) (λ m p q. not-both (not (f .failed)) (ap not q) m)
 
   -- ---- the run ends where no exchange is whole
 
@@ -163,7 +158,7 @@ module _ (s : State) (records replies : List ℕ) (h : s .records .held ≤ leng
         goes-on = λ R A j m. not-both false m refl;
         ends =
             λ R A j m a b more others c d.
-            rw (still-same {all = R} (s .records) (s .records) records (omega arith), still-same {all = A} (s .replies) (s .replies) replies (omega arith))
+            rw (still-same {all = R} (s .records .held) (s .records .held) records (omega arith), still-same {all = A} (s .replies .held) (s .replies .held) replies (omega arith))
             (says-last part more others j (l more others c d));
       }
 

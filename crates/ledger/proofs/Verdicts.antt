@@ -13,12 +13,12 @@ use Rattle.paper.specs.Words.{allB, first}
 use Rattle.paper.specs.Ledger.{blank}
 use Rattle.paper.specs.Watch.{Verdict, watched}
 use Rattle.paper.proofs.Bools.{split}
-use Rattle.framing.specs.Cut.{Parts, joined, isWhole, cut, restOf}
-use Rattle.framing.proofs.Cutting.{front-cut, cut-on}
+use Rattle.format.specs.Cut.{Parts, joined, isWhole, cut, restOf}
+use Rattle.format.proofs.Cutting.{front-cut, cut-on}
 use Rattle.watch.specs.declared.Tally.{Tally}
 use Rattle.watch.specs.Book.{noTally}
 use Rattle.watch.specs.Pairs.{tallyAll}
-use Rattle.watch.proofs.Exchanges.{watched-even}
+use Rattle.watch.proofs.ExchangeLaws.{watched-even}
 use Rattle.watch.proofs.Blocks.{watched-within}
 use Rattle.watch.proofs.Far.{far-broken, far-last}
 use Rattle.ledger.specs.Verdict.{Answer, exchanged, lastPart, judgedOf, judged}

@@ -9,9 +9,9 @@ use lib.IntN.{ℤ, pos, negsuc}
 use Rattle.paper.specs.Words.{allB}
 use Rattle.paper.specs.Ledger.{blank}
 use Rattle.paper.specs.Watch.{watched}
-use Rattle.framing.specs.Cut.{sizeOf, joined, isWhole}
-use Rattle.framing.specs.Turns as Reading
-use Rattle.framing.specs.Turns.{Ran, through}
+use Rattle.format.specs.Cut.{sizeOf, joined, isWhole}
+use Rattle.stream.specs.Turns as Reading
+use Rattle.stream.specs.Turns.{Ran, through}
 use Rattle.watch.specs.Book.{HoldsBook, noTally, most}
 use Rattle.watch.specs.Pairs.{tallyAll}
 use Rattle.ledger.specs.declared.Feed.{Feed}
@@ -26,14 +26,11 @@ abbrev pub Opened : ℤ → Type 0
 Opened (pos k) = Unit {0}
 Opened (negsuc k) = k ≡ 0
 
--- One read: what waits is kept, in front of what was read; a file has ended where nothing was; where there was no room it can't be read
+-- One read of a file, which has ended where nothing was read
 pub record Fed (f : Feed) (before : List ℕ) (r : Feed) (after : List ℕ) : Type 0 where
   pub fd : r .fd ≡ f .fd
-  pub within : r .held ≤ length after
-  pub grows : f .held ≤ r .held
-  pub kept : take (f .held) after ≡ take (f .held) before
   pub ended : r .ended ≡ eqb (r .held) (f .held)
-  pub full : f .held ≡ length before → r .failed ≡ true
+  pub read : Reading.Fed (f .held) before (record { held = r .held; failed = r .failed }) after
 
 -- what was read
 abbrev pub brought : Feed → Feed → List ℕ → List ℕ

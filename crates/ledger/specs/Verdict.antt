@@ -7,7 +7,7 @@ use lib.Dec.{ltb, eqb}
 use Rattle.paper.specs.Words.{_gives_, first}
 use Rattle.paper.specs.Ledger.{Ledger, blank}
 use Rattle.paper.specs.Watch.{Verdict, watched}
-use Rattle.framing.specs.Cut.{cut, restOf}
+use Rattle.format.specs.Cut.{cut, restOf}
 use Rattle.watch.specs.declared.Tally.{Tally}
 use Rattle.watch.specs.Book.{noTally}
 use Rattle.watch.specs.Pairs.{tallyAll}

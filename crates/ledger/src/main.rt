@@ -1,10 +1,11 @@
-// `ledger RECORDS REPLIES`: checks from a file of records and a file of replies alone that no frame was read after it was given back (demand 3 of document
-// 01). It trusts nothing of the replies, reads both files in blocks with constant memory, and says `kept` or the first reply that breaks a part.
-mod saying;
+// `ledger RECORDS REPLIES`: checks from a file of records and a file of replies alone that no frame was read after it
+// was given back (demand 3 of document 01). It trusts nothing of the replies, reads both files in blocks with constant
+// memory, and says `kept` or the first reply that breaks a part.
+mod text;
 
 use watch::Book;
 ghost use mathlib.Core.Path.{_≡_};
-ghost use Prim.Native.Nat.{_+_, _≤_, min};
+ghost use Prim.Native.Nat.{_≤_};
 ghost use lib.ListN.{length};
 ghost use Rattle.ledger.specs.Moves.{moveOf};
 ghost use Rattle.ledger.specs.Turns.{Opened, Fed, lessened, stateOf, wants, Went, Turned, standing, Judges};
@@ -12,7 +13,8 @@ ghost use Rattle.ledger.specs.Turns.{Opened, Fed, lessened, stateOf, wan
 // A record or a reply has at most 65,539 bytes, so there is always room to read on behind one that is not whole yet.
 const INPUT: usize = 131072;
 
-// One of the two files: how many of its bytes wait at the start of its buffer, and whether it has ended or could not be read.
+// One of the two files: how many of its bytes wait at the start of its buffer, and whether it has ended or could not be
+// read.
 struct Feed {
     fd: i32,
     held: usize,
@@ -20,7 +22,8 @@ struct Feed {
     failed: bool,
 }
 
-// The book, how many exchanges broke nothing, the two files, the part that the next exchange breaks, and whether the run goes on.
+// The book, how many exchanges broke nothing, the two files, the part that the next exchange breaks, and whether the
+// run goes on.
 struct State {
     book: Book,
     number: u64,
@@ -30,15 +33,16 @@ struct State {
     more: bool,
 }
 
-// What is done where no whole record or no whole reply is left: one of the files is read on, or the run ends with a part, or with 0.
+// What is done where no whole record or no whole reply is left: one of the files is read on, or the run ends with a
+// part, or with 0.
 enum Move {
     Records,
     Replies,
     Stop(u8),
 }
 
-// 18: a reply without its record; 17: a record without its reply; 1: a rest of the replies that is no whole reply. A rest of the records that is no whole
-// record has no reply. `said`, `answered`: a whole record, a whole reply is left.
+// 18: a reply without its record; 17: a record without its reply; 1: a rest of the replies that is no whole reply. A
+// rest of the records that is no whole record has no reply. `said`, `answered`: a whole record, a whole reply is left.
 fn next_move(said: bool, all_said: bool, answered: bool, all_answered: bool, rest: bool) -> Move
     ensures { λ r. ⌜ r ≡ moveOf said «all_said» answered «all_answered» rest ⌝ }
 {
@@ -57,35 +61,20 @@ fn next_move(said: bool, all_said: bool, answered: bool, all_answered: bool, res
     if said { Move::Stop(17) } else { Move::Stop(0) }
 }
 
-// The sum, stopping at the greatest value.
-fn plus(a: u64, n: usize) -> u64
-    ensures { λ r. ⌜ r ≡ min (a + n) 18446744073709551615 ⌝ }
-{
-    let m = n as u64;
-    if a < 18446744073709551615 - m {
-        a + m
-    } else {
-        18446744073709551615
-    }
-}
-
-// One read behind the bytes that wait. None is read at the end of the file, or where it can't be read; a buffer that is full, as none is behind a record
-// that is not whole, counts as a file that can't be read, so that no verdict rests on it.
+// One read behind the bytes that wait. None is read at the end of the file, or where it can't be read; a buffer that is
+// full, as none is behind a record that is not whole, counts as a file that can't be read, so that no verdict rests on
+// it.
 fn read_on(f: Feed, bytes: &mut [u8]) -> Feed
-    requires { ⌜ f .held ≤ length (now bytes) ⌝ }
     ensures { λ r. ⌜ Fed f (now (bytes .entry)) r (now (bytes .exit)) ⌝ }
 {
     let held = f.held;
-    let fd = f.fd;
-    let full = held == bytes.len();
-    let rest = &mut bytes[held..];
-    let got = libc::read(fd, rest);
-    let n = io::count(got, rest);
+    let r = stream::read_on(f.fd, held, bytes);
+    let now = r.held;
     Feed {
-        fd,
-        held: held + n,
-        ended: n == 0,
-        failed: (got < 0) | full,
+        fd: f.fd,
+        held: now,
+        ended: now == held,
+        failed: r.failed,
     }
 }
 
@@ -119,8 +108,8 @@ fn fed(s: State, records: Feed, replies: Feed, part: u8, more: bool) -> State
 
 // Reads one of the files on, or ends the run.
 fn go_on(s: State, m: Move, records: &mut [u8], replies: &mut [u8]) -> State
-    requires { ⌜ (s .records .held ≤ length (now records)) × (s .replies .held ≤ length (now replies)) ⌝ }
-    ensures { λ r. ⌜ Went s m (now (records .entry)) (now (replies .entry)) r (now (records .exit)) (now (replies .exit)) ⌝ }
+    ensures { λ r. ⌜ Went s m (now (records .entry)) (now (replies .entry)) r (now (records .exit))
+        (now (replies .exit)) ⌝ }
 {
     let a = s.records;
     let b = s.replies;
@@ -140,14 +129,15 @@ fn go_on(s: State, m: Move, records: &mut [u8], replies: &mut [u8]) -> State
 // What to do where no exchange is whole.
 fn starve(s: State, records: &mut [u8], replies: &mut [u8]) -> State
     requires { ⌜ (s .records .held ≤ length (now records)) × (s .replies .held ≤ length (now replies)) ⌝ }
-    ensures { λ r. ⌜ Went s (wants s (now (records .entry)) (now (replies .entry))) (now (records .entry)) (now (replies .entry)) r (now (records .exit)) (now (replies .exit)) ⌝ }
+    ensures { λ r. ⌜ Went s (wants s (now (records .entry)) (now (replies .entry))) (now (records .entry))
+        (now (replies .entry)) r (now (records .exit)) (now (replies .exit)) ⌝ }
 {
     let a = s.records;
     let b = s.replies;
     let n = a.held;
     let k = b.held;
-    let said = framing::size(&records[..n]) > 0;
-    let answered = framing::size(&replies[..k]) > 0;
+    let said = format::size(&records[..n]) > 0;
+    let answered = format::size(&replies[..k]) > 0;
     let m = next_move(said, a.ended, answered, b.ended, k > 0);
     go_on(s, m, records, replies)
 }
@@ -155,7 +145,8 @@ fn starve(s: State, records: &mut [u8], replies: &mut [u8]) -> State
 // Hears the exchanges that are whole, and makes room for more; where none is whole, reads on.
 fn turn(s: State, records: &mut [u8], replies: &mut [u8]) -> State
     requires { ⌜ (s .records .held ≤ length (now records)) × (s .replies .held ≤ length (now replies)) ⌝ }
-    ensures { λ r. ⌜ Turned s (now (records .entry)) (now (replies .entry)) r (now (records .exit)) (now (replies .exit)) ⌝ }
+    ensures { λ r. ⌜ Turned s (now (records .entry)) (now (replies .entry)) r (now (records .exit))
+        (now (replies .exit)) ⌝ }
 {
     let a = s.records;
     let b = s.replies;
@@ -168,14 +159,14 @@ fn turn(s: State, records: &mut [u8], replies: &mut [u8]) -> State
     if taken == 0 {
         return starve(s, records, replies);
     }
-    framing::shift(records, taken, n);
-    framing::shift(replies, answered, k);
+    stream::shift(records, taken, n);
+    stream::shift(replies, answered, k);
     let book = p.book;
     let x = without(a, taken);
     let y = without(b, answered);
     State {
         book,
-        number: plus(s.number, p.pairs),
+        number: watch::plus(s.number, p.pairs),
         records: x,
         replies: y,
         part: p.part,
@@ -261,8 +252,8 @@ fn finish(s: State) {
         return;
     }
     if s.part != 0 {
-        saying::broken(plus(s.number, 1), s.part);
+        text::broken(watch::plus(s.number, 1), s.part);
         return;
     }
-    saying::kept(book, s.number);
+    text::kept(book, s.number);
 }

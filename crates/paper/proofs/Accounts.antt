@@ -10,6 +10,7 @@ use Rattle.paper.specs.declared.Shown.{Shown}
 use Rattle.paper.specs.declared.Line.{Line}
 use Rattle.paper.specs.Words.{keep, anyB}
 use Rattle.paper.specs.Numbers.{u32, serialNos, surfaceNos}
+use Rattle.paper.specs.Kinds.{endKind, abandonKind, surfacePlace}
 use Rattle.paper.specs.Output.{Tail}
 use Rattle.paper.specs.Replies.{Begun, Reply}
 use Rattle.paper.specs.Ledger.{linesOf, Ledger, Event, Exchange, blank, lies, mayAll, uponAll, events, none, landed, abandoned, unchanged, lineOf, tell, heard, hear, told, readReply}
@@ -74,7 +75,7 @@ module _ (L : Ledger) (r : List ℕ) (d : Sep (linesOf L)) where
       let e : L .current ≡ [] = is-none (L .current) (left (none (L .current)) _ o1) in
       let o2 = right (none (L .current)) _ o1 in
       let o3 = right (eqb (b .serial .0) (L .begun)) _ o2 in
-      let o4 = right (not (anyB (lies (u32 r 9)) (L .held))) _ o3 in
+      let o4 = right (not (anyB (lies (u32 r surfacePlace)) (L .held))) _ o3 in
       let m : mayAll (events t) (L .held) ≡ true = left (mayAll (events t) (L .held)) _ o4 in
       let dh = sep-first (L .held) (L .current) d in
       let l : linesOf L ≡ L .held = ap (λ (H : List Line). L .held ++ H) e ∙ append-nil (L .held) in
@@ -95,8 +96,8 @@ module _ (L : Ledger) (r : List ℕ) (d : Sep (linesOf L)) where
   unfolding tell begunIn tailIn wanting keep count
   flow (Reply.Refused kind n) o = record { wants = λ k. omega arith; held = λ y. omega arith }
   flow (Reply.Done kind t) o =
-      by-case (λ (M : Ledger). M .ok ≡ true → Flow L M r (Reply.Done kind t)) (eqb kind 7) _ _ (λ _. flow-unchanged kind t)
-      (λ _. by-case (λ (M : Ledger). M .ok ≡ true → Flow L M r (Reply.Done kind t)) (eqb kind 8) _ _ (λ _. flow-abandoned kind t) (λ _. flow-landed kind t)) o
+      by-case (λ (M : Ledger). M .ok ≡ true → Flow L M r (Reply.Done kind t)) (eqb kind endKind) _ _ (λ _. flow-unchanged kind t)
+      (λ _. by-case (λ (M : Ledger). M .ok ≡ true → Flow L M r (Reply.Done kind t)) (eqb kind abandonKind) _ _ (λ _. flow-abandoned kind t) (λ _. flow-landed kind t)) o
   flow (Reply.Started b t) o = flow-started b t o
   flow (Reply.Listed l0 l1) o = record { wants = λ k. omega arith; held = λ y. omega arith }
 
@@ -109,8 +110,8 @@ counted : (n : ℕ) (L : Ledger) (r : List ℕ) (x : Reply) → tell L r x .ok �
 unfolding tell begunIn count
 counted n L r (Reply.Refused kind k) o = same refl refl
 counted n L r (Reply.Done kind t) o =
-    by-case (λ (M : Ledger). Counted n L M r (Reply.Done kind t)) (eqb kind 7) _ _ (λ _. same refl refl)
-    (λ _. by-case (λ (M : Ledger). Counted n L M r (Reply.Done kind t)) (eqb kind 8) _ _ (λ _. same refl refl) (λ _. same refl refl))
+    by-case (λ (M : Ledger). Counted n L M r (Reply.Done kind t)) (eqb kind endKind) _ _ (λ _. same refl refl)
+    (λ _. by-case (λ (M : Ledger). Counted n L M r (Reply.Done kind t)) (eqb kind abandonKind) _ _ (λ _. same refl refl) (λ _. same refl refl))
 counted n L r (Reply.Started b t) o =
     let e : b .serial .0 ≡ L .begun = eqb-true (b .serial .0) (L .begun) (left (eqb (b .serial .0) (L .begun)) _ (right (none (L .current)) _ (right (L .ok) _ o))) in
     more (let k = ap (hit n) e in omega (arith, k)) refl

@@ -7,6 +7,7 @@ use native.Mathlib.Omega.{arith}
 use lib.Dec.{eqb}
 use Rattle.paper.specs.declared.Line.{Line}
 use Rattle.paper.specs.Words.{keep}
+use Rattle.paper.specs.Kinds.{endKind, abandonKind}
 use Rattle.paper.specs.Replies.{Reply}
 use Rattle.paper.specs.Ledger.{linesOf, Ledger, Exchange, off, uponAll, events, landed, abandoned, unchanged, lineOf, tell, hear, told, readReply}
 use Rattle.paper.specs.Accounts.{count, serials, wanting, begunIn, begunAll}
@@ -21,9 +22,9 @@ module _ (P : Line → Type 0) (stays : (n : ℕ) (e : Line) → P e → P (off 
   unfolding tell begunIn
   lines-tell L r (Reply.Refused kind n) a b = a
   lines-tell L r (Reply.Done kind t) a b =
-      by-case (λ (M : Ledger). All P (linesOf M)) (eqb kind 7) (unchanged L t) _ (λ _. a)
+      by-case (λ (M : Ledger). All P (linesOf M)) (eqb kind endKind) (unchanged L t) _ (λ _. a)
       (λ _.
-      by-case (λ (M : Ledger). All P (linesOf M)) (eqb kind 8) (abandoned L t) (landed kind L t)
+      by-case (λ (M : Ledger). All P (linesOf M)) (eqb kind abandonKind) (abandoned L t) (landed kind L t)
       (λ _. subst (All P) (sym (append-nil (L .held))) (all-first P (L .held) (L .current) a))
       (λ _. subst (All P) (sym (append-nil (uponAll (events t) (linesOf L)))) (all-after P stays (events t) (linesOf L) a)))
   lines-tell L r (Reply.Started b t) a k = all-append P (uponAll (events t) (L .held)) (lineOf r b ∷ []) (all-after P stays (events t) (L .held) (all-first P (L .held) (L .current) a)) k
@@ -42,8 +43,8 @@ module _ (P : Line → Type 0) where
   unfolding tell begunIn
   current-tell L r (Reply.Refused kind n) a b = a
   current-tell L r (Reply.Done kind t) a b =
-      by-case (λ (M : Ledger). All P (M .current)) (eqb kind 7) (unchanged L t) _ (λ _. a)
-      (λ _. by-case (λ (M : Ledger). All P (M .current)) (eqb kind 8) (abandoned L t) (landed kind L t) (λ _. tt) (λ _. tt))
+      by-case (λ (M : Ledger). All P (M .current)) (eqb kind endKind) (unchanged L t) _ (λ _. a)
+      (λ _. by-case (λ (M : Ledger). All P (M .current)) (eqb kind abandonKind) (abandoned L t) (landed kind L t) (λ _. tt) (λ _. tt))
   current-tell L r (Reply.Started b t) a k = k
   current-tell L r (Reply.Listed l0 l1) a b = a
 

@@ -12,6 +12,7 @@ use Rattle.paper.specs.declared.Shown.{Shown}
 use Rattle.paper.specs.declared.Line.{Line}
 use Rattle.paper.specs.Words.{allB, anyB}
 use Rattle.paper.specs.Numbers.{u16, u32, sameSerial}
+use Rattle.paper.specs.Kinds.{beginKind, discardKind, endKind, abandonKind, surfacePlace}
 use Rattle.paper.specs.Records.{kindOf}
 use Rattle.paper.specs.Output.{Tail}
 use Rattle.paper.specs.Replies.{Begun, Reply}
@@ -54,31 +55,31 @@ no-throws [] (n ∷ ns) xs e = e
 no-throws (x ∷ hs) ns xs e = not-both false e refl
 
 -- of the replies that hold a tail alone, only those to discard and abandon throw away
-done-threw : (L : Ledger) (r : List ℕ) (kind : ℕ) (t : Tail) → tell L r (Reply.Done kind t) .ok ≡ true → none (t .thrown) ≡ false → (eqb kind 6 || eqb kind 8) ≡ true
+done-threw : (L : Ledger) (r : List ℕ) (kind : ℕ) (t : Tail) → tell L r (Reply.Done kind t) .ok ≡ true → none (t .thrown) ≡ false → (eqb kind discardKind || eqb kind abandonKind) ≡ true
 unfolding tell
 done-threw L r kind t o h =
-    split (eqb kind 7)
-    (λ p. not-both (none (t .thrown)) (no-throws (t .handed) (t .thrown) (t .released) (right (L .ok) _ (ap (λ (c : Bool). cond c (unchanged L t) (cond (eqb kind 8) (abandoned L t) (landed kind L t)) .ok) (sym p) ∙ o))) h)
+    split (eqb kind endKind)
+    (λ p. not-both (none (t .thrown)) (no-throws (t .handed) (t .thrown) (t .released) (right (L .ok) _ (ap (λ (c : Bool). cond c (unchanged L t) (cond (eqb kind abandonKind) (abandoned L t) (landed kind L t)) .ok) (sym p) ∙ o))) h)
     (λ p.
-    split (eqb kind 8) (λ q. or-right (eqb kind 6) _ q)
+    split (eqb kind abandonKind) (λ q. or-right (eqb kind discardKind) _ q)
     (λ q.
     let k : landed kind L t .ok ≡ true = rw (p, q) at o in
-    let m = left (none (t .thrown) || eqb kind 6) _ (right (mayAll (events t) (linesOf L)) _ (right (L .ok) _ k)) in
-    B.or-left (eqb kind 6) _ (rw h at m)))
+    let m = left (none (t .thrown) || eqb kind discardKind) _ (right (mayAll (events t) (linesOf L)) _ (right (L .ok) _ k)) in
+    B.or-left (eqb kind discardKind) _ (rw h at m)))
 
 clear-of : (L : Ledger) (r : List ℕ) (b : Begun) (t : Tail) → tell L r (Reply.Started b t) .ok ≡ true → none (t .thrown) ≡ false
     → (b .noPrior && (none (t .handed) && none (uponAll (events t) (L .held)))) ≡ true
 unfolding tell
 clear-of L r b t o h =
-    let o4 = right (not (anyB (lies (u32 r 9)) (L .held))) _ (right (eqb (b .serial .0) (L .begun)) _ (right (none (L .current)) _ (right (L .ok) _ o))) in
+    let o4 = right (not (anyB (lies (u32 r surfacePlace)) (L .held))) _ (right (eqb (b .serial .0) (L .begun)) _ (right (none (L .current)) _ (right (L .ok) _ o))) in
     rw h at (left (clearing b t (uponAll (events t) (L .held))) _ (right (mayAll (events t) (L .held)) _ o4))
 
 -- a reply in order that throws away is one to a named call
 threw : (L : Ledger) (r : List ℕ) (a : Reply) → heard r a ≡ true → tell L r a .ok ≡ true → none (tailIn a .thrown) ≡ false → throwsAway r a ≡ true
 unfolding tailIn throwsAway heard
 threw L r (Reply.Refused kind n) d o h = not-both (none {A = Serial} []) none-nothing h
-threw L r (Reply.Done kind t) d o h = let e : kind ≡ kindOf r = eqb-true kind (u16 r 2) d in rw (← e) (done-threw L r kind t o h)
-threw L r (Reply.Started b t) d o h = both (eq-eqb (kindOf r) 2 (sym (eqb-true 2 (u16 r 2) d))) (left (b .noPrior) _ (clear-of L r b t o h))
+threw L r (Reply.Done kind t) d o h = let e : kind ≡ kindOf r = eqb-true kind (kindOf r) d in rw (← e) (done-threw L r kind t o h)
+threw L r (Reply.Started b t) d o h = both (eq-eqb (kindOf r) beginKind (sym (eqb-true 2 (kindOf r) d))) (left (b .noPrior) _ (clear-of L r b t o h))
 threw L r (Reply.Listed l0 l1) d o h = not-both (none {A = Serial} []) none-nothing h
 
 -- exchanges in two parts
@@ -89,7 +90,7 @@ told-append L (b ∷ bs) x ls = told-append (hear L (b .said) (readReply (b .ans
 
 module _ (bs ls : List Exchange) (x : Exchange) (o : told blank (bs ++ (x ∷ ls)) .ok ≡ true) where
   abbrev y : ℕ
-  y = u32 (x .said) 9
+  y = u32 (x .said) surfacePlace
 
   abbrev before : Ledger
   before = told blank bs
@@ -231,7 +232,7 @@ in-order-kept xs o =
           (exactly-one-at bs ls x (rw e at o) b t p w);
       between = λ bs ms ls x y b c t u e p q s z. between-at bs ms ls x y (rw e at o) b c t u p q s z;
       once = λ bs ls x b t e p z.
-          subst (λ (ys : List Exchange). count (u32 (x .said) 9) (surfaces (linesOf (told blank ys))) + count (u32 (x .said) 9) (releasedAll ls) ≡ 1) (sym e)
+          subst (λ (ys : List Exchange). count (u32 (x .said) surfacePlace) (surfaces (linesOf (told blank ys))) + count (u32 (x .said) surfacePlace) (releasedAll ls) ≡ 1) (sym e)
           (once-at bs ls x (rw e at o) b t p z);
       held-from = λ bs ls x b t e p z.
           subst (λ (ys : List Exchange). allB (λ (l : Line). not (lies (onSurface x) l) || sameSerial (l .serial) (b .serial)) (linesOf (told blank ys)) ≡ true) (sym e)

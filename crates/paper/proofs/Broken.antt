@@ -8,6 +8,7 @@ use lib.ListN.{length, drop}
 use borrow.Author.Tests.{eqb-false}
 use Rattle.paper.specs.Words.{keep, allB, anyB, flat}
 use Rattle.paper.specs.Numbers.{bit, bytes32, aSerial}
+use Rattle.paper.specs.Kinds.{beginKind, listsKind, finishKind, drainKind, replyTo, restPlace, begunMembers}
 use Rattle.paper.specs.Output.{Tail}
 use Rattle.paper.specs.Replies.{Begun, framed}
 use Rattle.paper.specs.Ledger.{Exchange, setWords, readWords, readShown, readReleased, readTail, readSets, readBegun, readReply, may, free, upon, mayAll, uponAll, none, names, tell, heard, told, blank}
@@ -30,26 +31,26 @@ quietly = tailOf [] [] []
 
 -- a record of this kind without a body, and its reply with this tail
 abbrev call : ℕ → List ℕ → Exchange
-call kind t = record { said = 0 ∷ 0 ∷ kind ∷ 0 ∷ []; answered = framed (256 + kind) 0 t }
+call kind t = record { said = 0 ∷ 0 ∷ kind ∷ 0 ∷ []; answered = framed (replyTo kind) 0 t }
 
 -- an IDR picture begun on this surface, and the reply: its flags, serial, the serials of StCurrBefore and the tail
 abbrev beginning : ℕ → ℕ → ℕ → List ℕ → List ℕ → Exchange
 beginning x flags n ns t =
     record {
       said = 12 ∷ 0 ∷ 2 ∷ 0 ∷ 19 ∷ 0 ∷ 1 ∷ 0 ∷ 0 ∷ x ∷ 0 ∷ 0 ∷ 0 ∷ 0 ∷ 0 ∷ 0 ∷ [];
-      answered = framed 258 0 (bytes32 0 ++ (flags ∷ []) ++ bytes32 n ++ (length ns ∷ 0 ∷ 0 ∷ 0 ∷ 0 ∷ []) ++ flat bytes32 ns ++ t);
+      answered = framed (replyTo beginKind) 0 (bytes32 0 ++ (flags ∷ []) ++ bytes32 n ++ (length ns ∷ 0 ∷ 0 ∷ 0 ∷ 0 ∷ []) ++ flat bytes32 ns ++ t);
     }
 
 -- a lists record, and the reply: list 0 of these serials
 abbrev listing : List ℕ → Exchange
-listing ns = record { said = 4 ∷ 0 ∷ 3 ∷ 0 ∷ 1 ∷ 0 ∷ length ns ∷ 0 ∷ []; answered = framed 259 0 (length ns ∷ 0 ∷ flat bytes32 ns) }
+listing ns = record { said = 4 ∷ 0 ∷ 3 ∷ 0 ∷ 1 ∷ 0 ∷ length ns ∷ 0 ∷ []; answered = framed (replyTo listsKind) 0 (length ns ∷ 0 ∷ flat bytes32 ns) }
 
 -- what the reply to a begin says of the picture, and its tail
 abbrev pictureIn : Exchange → Begun
-pictureIn x = readBegun (drop 6 (x .answered))
+pictureIn x = readBegun (drop restPlace (x .answered))
 
 abbrev tailAt : Exchange → Tail
-tailAt x = readTail (drop (4 * setWords (drop 6 (x .answered))) (drop 14 (drop 6 (x .answered))))
+tailAt x = readTail (drop (4 * setWords (drop restPlace (x .answered))) (drop begunMembers (drop restPlace (x .answered))))
 
 -- Picture 0 is begun on surface 7 with output flag 1: flags 7, and 15 with "no output of prior pictures"
 abbrev first0 : Exchange
@@ -163,8 +164,8 @@ broken =
     -- a drain is answered as a lists record
     ∷ in-order is-broken-by (first0 ∷ answering (drain [] [] []) (listing (0 ∷ [])) ∷ [])
     -- a drain is refused as a finish, or with number 13 and its own kind
-    ∷ in-order is-broken-by (refusing 5 260 9 ∷ [])
-    ∷ in-order is-broken-by (refusing 5 261 13 ∷ [])
+    ∷ in-order is-broken-by (refusing drainKind (replyTo finishKind) 9 ∷ [])
+    ∷ in-order is-broken-by (refusing drainKind (replyTo drainKind) 13 ∷ [])
     -- a begin while a picture is current
     ∷ in-order is-broken-by (first0 ∷ other1 ∷ [])
     -- the first serial is not 0

@@ -6,7 +6,7 @@ use Rattle.paper.specs.State.{fresh}
 use Rattle.paper.specs.Step.{answeredOf}
 use Rattle.paper.specs.Ledger.{Ledger}
 use Rattle.paper.specs.Statement.{exchanges, ledgerOf, Demand}
-use Rattle.paper.proofs.Demand3.{demand3}
+use Rattle.paper.proofs.LedgerTold.{demand3}
 use Rattle.paper.proofs.Between.{in-order-kept}
 use Rattle.paper.proofs.Rooms.{any-room}
 

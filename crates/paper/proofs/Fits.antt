@@ -17,6 +17,7 @@ use Rattle.paper.specs.declared.Now.the-variants as Now
 use Rattle.paper.specs.declared.Wish.{Wish}
 use Rattle.paper.specs.Words.{keep, allB, table, Test, _gives_, first}
 use Rattle.paper.specs.Numbers.{u8, bit, bytes32, missing, serialNos}
+use Rattle.paper.specs.Kinds.{replyTo, malformedReply}
 use Rattle.paper.specs.Records.{Fields, ListAsk, Slice, entries0, entries1, fieldsOf, sliceOf}
 use Rattle.paper.specs.State.{Session, isCurrent, onNow, modulus}
 use Rattle.paper.specs.Nal.{taken, irap, idr}
@@ -215,8 +216,8 @@ module _ (s : Session) (r : List ℕ) (i : length (s .store) ≤ 16) where
   fit-decide =
       by-ways s r Fits
       (record {
-        malformed = fit-no 511 13;
-        no = λ kind n k g b l h. fit-no (256 + kind) n;
+        malformed = fit-no malformedReply 13;
+        no = λ kind n k g b l h. fit-no (replyTo kind) n;
         configure = λ k a b. tailed _ 1 _ drained-none (drained-short b);
         begin = λ k z. fit-begin z;
         lists = λ k c e z. fit-lists c z;

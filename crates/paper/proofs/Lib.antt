@@ -15,7 +15,7 @@ pub mod Members
 pub mod Ways
 pub mod Sound
 pub mod Heard
-pub mod Demand3
+pub mod LedgerTold
 pub mod Flow
 pub mod Tidy
 pub mod Accounts

@@ -4,6 +4,7 @@ use Rattle.paper.specs.declared.Surface.{Surface}
 use Rattle.paper.specs.declared.Shown.{Shown}
 use Rattle.paper.specs.Words.{flat}
 use Rattle.paper.specs.Numbers.{u8, u16, u32, i32, bytes16, bytes32, signed32, bit, flagAt, serialNos, surfaceNos, aSerial, aSurface}
+use Rattle.paper.specs.Kinds.{beginKind, listsKind, replyOffset, replyTo, shownWidth}
 use Rattle.paper.specs.Poc.{in32}
 use Rattle.paper.specs.Sets.{Sets, inOrder}
 use Rattle.paper.specs.Output.{Tail}
@@ -61,7 +62,7 @@ four-back n h =
 more-words : (n : ℕ) → 4 * suc n ≡ suc (suc (suc (suc (4 * n))))
 more-words n = omega arith
 
-more-shown : (n : ℕ) → 12 * suc n ≡ suc (suc (suc (suc (suc (suc (suc (suc (suc (suc (suc (suc (12 * n))))))))))))
+more-shown : (n : ℕ) → shownWidth * suc n ≡ suc (suc (suc (suc (suc (suc (suc (suc (suc (suc (suc (suc (shownWidth * n))))))))))))
 more-shown n = omega arith
 
 words-back : (ns rest : List ℕ) → All Word ns → readWords (length ns) (words ns ++ rest) ≡ ns
@@ -86,7 +87,7 @@ unfolding flat readShown bytes32
 all-shown-back [] rest a = refl
 all-shown-back (x ∷ xs) rest a = λ i. shown-back x (flat shownBytes xs ++ rest) (a .0) i ∷ all-shown-back xs rest (a .1) i
 
-shown-past : (xs : List Shown) (rest : List ℕ) → drop (12 * length xs) (flat shownBytes xs ++ rest) ≡ rest
+shown-past : (xs : List Shown) (rest : List ℕ) → drop (shownWidth * length xs) (flat shownBytes xs ++ rest) ≡ rest
 unfolding flat bytes32
 shown-past [] rest = refl
 shown-past (x ∷ xs) rest = rw (more-shown (length xs)) (shown-past xs rest)
@@ -125,10 +126,10 @@ module _ (t : Tail) where
   abbrev R : List ℕ
   R = length (t .released) ∷ words (surfaceNos (t .released))
 
-  past : drop (12 * length (t .handed)) (flat shownBytes (t .handed) ++ T ++ R) ≡ T ++ R
+  past : drop (shownWidth * length (t .handed)) (flat shownBytes (t .handed) ++ T ++ R) ≡ T ++ R
   past = rw (append-assoc (flat shownBytes (t .handed)) T R) (shown-past (t .handed) (T ++ R))
 
-  past-twice : drop (4 * u8 (drop (12 * length (t .handed)) (flat shownBytes (t .handed) ++ T ++ R)) 0) (drop 1 (drop (12 * length (t .handed)) (flat shownBytes (t .handed) ++ T ++ R))) ≡ R
+  past-twice : drop (4 * u8 (drop (shownWidth * length (t .handed)) (flat shownBytes (t .handed) ++ T ++ R)) 0) (drop 1 (drop (shownWidth * length (t .handed)) (flat shownBytes (t .handed) ++ T ++ R))) ≡ R
   past-twice = rw past (serials-past (t .thrown) R)
 
   pub tail-back : FitTail t → readTail (tailBytes t) ≡ t
@@ -241,7 +242,7 @@ begun-past b rest = ap (λ (n : ℕ). drop (4 * n) (named (inOrder (b .sets)) ++
 
 abbrev pub Fit : Reply → Type 0
 Fit (Reply.Refused kind n) = (kind < 65536) × (n < 65536) × (n ≡ 0 → ⊥)
-Fit (Reply.Done kind t) = (kind < 256) × (kind ≡ 2 → ⊥) × (kind ≡ 3 → ⊥) × FitTail t
+Fit (Reply.Done kind t) = (kind < 256) × (kind ≡ beginKind → ⊥) × (kind ≡ listsKind → ⊥) × FitTail t
 Fit (Reply.Started b t) = FitBegun b × FitTail t
 Fit (Reply.Listed l0 l1) = All SerialWord l0 × All SerialWord l1
 
@@ -249,11 +250,11 @@ pub read-back : (x : Reply) → Fit x → readReply (bytesOf x) ≡ x
 unfolding readReply bytesOf
 read-back (Reply.Refused kind n) f = rw (two-back kind (f .0), two-back n (f .1), ne-eqb n 0 (f .2))
 read-back (Reply.Done kind t) f =
-    let e : 256 + kind < 65536 = omega (arith, f .0) in
-    let a : eqb (256 + kind) 258 ≡ false = ne-eqb (256 + kind) 258 (λ z. f .1 (omega arith)) in
-    let b : eqb (256 + kind) 259 ≡ false = ne-eqb (256 + kind) 259 (λ z. f .2 (omega arith)) in
-    let c : 256 + kind - 256 ≡ kind = omega arith in
-    rw (two-back (256 + kind) e, a, b, c, tail-back t (f .3))
+    let e : replyTo kind < 65536 = omega (arith, f .0) in
+    let a : eqb (replyTo kind) (replyTo beginKind) ≡ false = ne-eqb (replyTo kind) (replyTo beginKind) (λ z. f .1 (omega arith)) in
+    let b : eqb (replyTo kind) (replyTo listsKind) ≡ false = ne-eqb (replyTo kind) (replyTo listsKind) (λ z. f .2 (omega arith)) in
+    let c : replyTo kind - replyOffset ≡ kind = omega arith in
+    rw (two-back (replyTo kind) e, a, b, c, tail-back t (f .3))
 read-back (Reply.Started b t) f = λ i. Reply.Started (begun-back b (tailBytes t) (f .0) i) ((ap readTail (begun-past b (tailBytes t)) ∙ tail-back t (f .1)) i)
 read-back (Reply.Listed l0 l1) f =
     let e : named (l0 ++ l1) ≡ named l0 ++ named l1 = named-append l0 l1 in

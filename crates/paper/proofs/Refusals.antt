@@ -8,6 +8,7 @@ use lib.Dec.{eqb, ltb}
 use lib.ListN.{length}
 use borrow.Author.Tests.{ne-eqb, le-ltb}
 use Rattle.paper.specs.Numbers.{u16, bytes16, replyLimit, serialNos}
+use Rattle.paper.specs.Kinds.{beginKind, listsKind, replyTo, malformedReply}
 use Rattle.paper.specs.Words.{allB}
 use Rattle.paper.specs.Records.{kindOf, wellFormed}
 use Rattle.paper.specs.State.{Session, fresh}
@@ -21,7 +22,7 @@ use Rattle.paper.proofs.ReadBack.{read-back}
 use Rattle.paper.proofs.WholeBack.{whole-back}
 use Rattle.paper.proofs.Unbroken.{knows}
 use Rattle.paper.proofs.Sound.{Sound, good-step}
-use Rattle.paper.proofs.Demand3.{sound-fresh, sound-after}
+use Rattle.paper.proofs.LedgerTold.{sound-fresh, sound-after}
 use Rattle.paper.proofs.Fits.{fit-decide}
 use Rattle.paper.proofs.Normal.{bounded-after}
 use Rattle.paper.proofs.Ways.{by-ways}
@@ -29,7 +30,7 @@ use Rattle.paper.proofs.Rooms.{large-room}
 
 -- "its reply kind is 511" for number 13, else 256 + the record's kind
 abbrev pub refusalKind : ℕ → List ℕ → ℕ
-refusalKind n r = cond (eqb n 13) 511 (256 + kindOf r)
+refusalKind n r = cond (eqb n 13) malformedReply (replyTo (kindOf r))
 
 -- of a number other than 0
 pub record Refusal (s : Session) (r : List ℕ) (d : Decided) : Type 0 where
@@ -90,9 +91,9 @@ framed-says kind n rest h = omega (arith, h)
 says : (x : Reply) → length (bytesOf x) ≤ 512 → u16 (bytesOf x) 0 + 4 ≡ length (bytesOf x)
 unfolding bytesOf
 says (Reply.Refused kind n) h = framed-says kind n [] h
-says (Reply.Done kind t) h = framed-says (256 + kind) 0 (tailBytes t) h
-says (Reply.Started b t) h = framed-says 258 0 (begunBytes b ++ tailBytes t) h
-says (Reply.Listed l0 l1) h = framed-says 259 0 (length l0 ∷ length l1 ∷ words (serialNos (l0 ++ l1))) h
+says (Reply.Done kind t) h = framed-says (replyTo kind) 0 (tailBytes t) h
+says (Reply.Started b t) h = framed-says (replyTo beginKind) 0 (begunBytes b ++ tailBytes t) h
+says (Reply.Listed l0 l1) h = framed-says (replyTo listsKind) 0 (length l0 ∷ length l1 ∷ words (serialNos (l0 ++ l1))) h
 
 says-at : (s : Session) (r : List ℕ) → length (s .store) ≤ 16 → u16 (stepOf s r replyLimit .bytes) 0 + 4 ≡ length (stepOf s r replyLimit .bytes)
 unfolding stepOf

@@ -8,6 +8,7 @@ use Rattle.paper.specs.declared.Limits.{Limits}
 use Rattle.paper.specs.declared.Current.{Current}
 use Rattle.paper.specs.Words.{keep, flat}
 use Rattle.paper.specs.Numbers.{bytes32, serialNos, surfaceNos}
+use Rattle.paper.specs.Kinds.{shownWidth}
 use Rattle.paper.specs.Records.{Fields}
 use Rattle.paper.specs.State.{Session, isMarked}
 use Rattle.paper.specs.Output.{Tail, joined, quiet, Moved, still, andThen, turns, lowest, leave, stay, done, handFound, handOut, cleared, emptied, inUse, removed, handWhile, due, dueLate, beforeDecoding}
@@ -146,12 +147,12 @@ unfolding words flat bytes32
 words-length [] = refl
 words-length (n ∷ ns) = omega (arith, words-length ns)
 
-pub shown-length : (xs : List Shown) → length (flat shownBytes xs) ≡ 12 * length xs
+pub shown-length : (xs : List Shown) → length (flat shownBytes xs) ≡ shownWidth * length xs
 unfolding flat bytes32
 shown-length [] = refl
 shown-length (x ∷ xs) = omega (arith, shown-length xs)
 
-pub tail-length : (t : Tail) → length (tailBytes t) ≡ 3 + 12 * length (t .handed) + 4 * length (t .thrown) + 4 * length (t .released)
+pub tail-length : (t : Tail) → length (tailBytes t) ≡ 3 + shownWidth * length (t .handed) + 4 * length (t .thrown) + 4 * length (t .released)
 unfolding tailBytes
 tail-length t =
     let T = length (t .thrown) ∷ words (serialNos (t .thrown)) in

@@ -17,6 +17,7 @@ use Rattle.paper.specs.declared.Current.{Current}
 use Rattle.paper.specs.declared.Now.{Now}
 use Rattle.paper.specs.Words.{keep, allB, anyB, table, Test, _gives_, first}
 use Rattle.paper.specs.Numbers.{u32, missing, aSerial, sameSerial}
+use Rattle.paper.specs.Kinds.{configureKind, finishKind, drainKind, discardKind, endKind, abandonKind, replyTo, malformedReply}
 use Rattle.paper.specs.Records.{Fields, ListAsk, Slice, limitsOf, fieldsOf, sliceOf, wellFormed, kindOf}
 use Rattle.paper.specs.State.{Session, Refs, noRefs, allRefs, isCurrent, modulus, onNow}
 use Rattle.paper.specs.Ranges.{beginRanges, configureRanges}
@@ -256,7 +257,7 @@ module _ (s : Session) (r : List ℕ) (i : Sound s) (bytes : allB (λ (b : ℕ).
     unfolding finished
     finish-below = all-while (Fine (s .next)) (λ n p h. h) (due false (s .limits)) (map raised (s .store) ++ (stored c ∷ [])) raised-below
 
-    good-finish : Good s r (accepted (finishedSession s c) 4 (finished (s .limits) (s .store) c .tail))
+    good-finish : Good s r (accepted (finishedSession s c) finishKind (finished (s .limits) (s .store) c .tail))
     unfolding tell none
     good-finish =
         record {
@@ -269,7 +270,7 @@ module _ (s : Session) (r : List ℕ) (i : Sound s) (bytes : allB (λ (b : ℕ).
     drop-runs : Runs (events (dropped c)) (currentLine c ∷ []) []
     drop-runs = drop-first (stored c) [] (tt, tt)
 
-    good-abandon : Good s r (accepted (abandonedSession s) 8 (dropped c))
+    good-abandon : Good s r (accepted (abandonedSession s) abandonKind (dropped c))
     unfolding tell none
     good-abandon =
         record {
@@ -320,7 +321,7 @@ module _ (s : Session) (r : List ℕ) (i : Sound s) (bytes : allB (λ (b : ℕ).
   drained-leaves = emptied-leaves (finishedNow s .pics)
 
   -- drain and configure differ in the session that they leave
-  good-drained : (t : Session) (kind : ℕ) → t .store ≡ drainedNow s .pics → t .current ≡ Now.Idle → t .refs ≡ noRefs → t .next ≡ s .next → (kind ≡ 1) ⊎ (kind ≡ 5)
+  good-drained : (t : Session) (kind : ℕ) → t .store ≡ drainedNow s .pics → t .current ≡ Now.Idle → t .refs ≡ noRefs → t .next ≡ s .next → (kind ≡ configureKind) ⊎ (kind ≡ drainKind)
       → Good s r (accepted t kind (drainedNow s .tail))
   unfolding tell none
   good-drained t kind a b c n k =
@@ -331,20 +332,20 @@ module _ (s : Session) (r : List ℕ) (i : Sound s) (bytes : allB (λ (b : ℕ).
         fit = (⊎-elim (λ h. omega arith) (λ h. omega arith) k, (λ z. ⊎-elim (λ h. omega arith) (λ h. omega arith) k), (λ z. ⊎-elim (λ h. omega arith) (λ h. omega arith) k), fit-tail (drainedNow s .tail) _ _ held-fit drained-runs);
       }
     where
-      ended : (kind : ℕ) → eqb kind 4 ≡ false → landed kind (ledgerOf s) (drainedNow s .tail) ≡ ledgerOf t
+      ended : (kind : ℕ) → eqb kind finishKind ≡ false → landed kind (ledgerOf s) (drainedNow s .tail) ≡ ledgerOf t
       ended kind q =
           rw (a ∙ drained-leaves, b, n)
           (ledgers (drained-runs .leads) refl (both (drained-runs .allowed) (both (or-left _ _ (nothing drained-throws)) (both (or-left _ _ (nothing (drained-runs .leads))) (rw q (mathlib.Core.Bool.or-true (not (none (ledgerOf s .current)))))))))
 
-      told : (kind ≡ 1) ⊎ (kind ≡ 5) → tell (ledgerOf s) r (Reply.Done kind (drainedNow s .tail)) ≡ ledgerOf t
+      told : (kind ≡ configureKind) ⊎ (kind ≡ drainKind) → tell (ledgerOf s) r (Reply.Done kind (drainedNow s .tail)) ≡ ledgerOf t
       told (inl h) = rw h (ended 1 refl)
       told (inr h) = rw h (ended 5 refl)
 
-  good-discard : Good s r (accepted (discardedSession s) 6 (discarded (s .store) (s .current) .tail))
+  good-discard : Good s r (accepted (discardedSession s) discardKind (discarded (s .store) (s .current) .tail))
   unfolding tell none discarded
   good-discard = go (s .current) refl
     where
-      go : (x : Now) → s .current ≡ x → Good s r (accepted (discardedSession s) 6 (joined (onNow x quiet dropped) (cleared (s .store) .tail)))
+      go : (x : Now) → s .current ≡ x → Good s r (accepted (discardedSession s) discardKind (joined (onNow x quiet dropped) (cleared (s .store) .tail)))
       go Now.Idle e =
           record {
             tells = rw (e, append-nil (map line (s .store))) (ledgers (clears (s .store) store-distinct .leads) refl (ok-gone _ (none (cleared (s .store) .tail .thrown)) _ false (clears (s .store) store-distinct .allowed) (nothing (clears (s .store) store-distinct .leads))));
@@ -358,7 +359,7 @@ module _ (s : Session) (r : List ℕ) (i : Sound s) (bytes : allB (λ (b : ℕ).
             fit = (omega arith, (λ z. omega arith), (λ z. omega arith), fit-tail (joined (dropped c) (cleared (s .store) .tail)) _ _ (current-fit c e) (discard-runs c e));
           }
 
-  good-end : Good s r (accepted (endedSession s) 7 quiet)
+  good-end : Good s r (accepted (endedSession s) endKind quiet)
   unfolding tell none
   good-end = record { tells = refl; sound = record { distinct = i .distinct; below = i .below; named = i .named; small = i .small }; fit = (omega arith, (λ z. omega arith), (λ z. omega arith), record { handed = tt; thrown = tt; released = tt }) }
 
@@ -498,8 +499,8 @@ module _ (s : Session) (r : List ℕ) (i : Sound s) (bytes : allB (λ (b : ℕ).
   good-step =
       by-ways s r (Good s r)
       (record {
-        malformed = good-refused 511 13 (omega arith) (omega arith) (λ e. omega arith);
-        no = λ kind n k g b l h. good-refused (256 + kind) n (omega arith) (omega arith) (λ e. omega arith);
+        malformed = good-refused malformedReply 13 (omega arith) (omega arith) (λ e. omega arith);
+        no = λ kind n k g b l h. good-refused (replyTo kind) n (omega arith) (omega arith) (λ e. omega arith);
         configure = λ k a b. good-drained (configuredSession s (limitsOf r)) 1 refl refl refl refl (inl refl);
         begin = λ k z. good-begin z;
         lists = λ k c e z. good-lists c e (sliceOf r);

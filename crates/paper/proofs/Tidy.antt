@@ -9,6 +9,7 @@ use borrow.Author.Tests.{eqb-true, ne-eqb}
 use Rattle.paper.specs.declared.Line.{Line}
 use Rattle.paper.specs.Words.{keep, anyB}
 use Rattle.paper.specs.Numbers.{u32}
+use Rattle.paper.specs.Kinds.{endKind, abandonKind, surfacePlace}
 use Rattle.paper.specs.Output.{Tail}
 use Rattle.paper.specs.Replies.{Begun, Reply}
 use Rattle.paper.specs.Ledger.{linesOf, Ledger, Event, Hand, Throw, Free, Exchange, blank, lies, off, free, upon, mayAll, uponAll, events, none, landed, abandoned, unchanged, lineOf, tell, heard, hear, told, readReply}
@@ -80,14 +81,14 @@ module _ (L : Ledger) (r : List ℕ) (i : Tidy L) where
       let o2 = right (none (L .current)) _ (right (L .ok) _ o) in
       let n : b .serial .0 ≡ L .begun = eqb-true (b .serial .0) (L .begun) (left (eqb (b .serial .0) (L .begun)) _ o2) in
       let o3 = right (eqb (b .serial .0) (L .begun)) _ o2 in
-      let f : anyB (lies (u32 r 9)) (L .held) ≡ false = no-of (anyB (lies (u32 r 9)) (L .held)) (left (not (anyB (lies (u32 r 9)) (L .held))) _ o3) in
-      let away = all-after (λ (e : Line). lies (u32 r 9) e ≡ false) (λ m e h. h) (events t) (L .held) (none-any (lies (u32 r 9)) (L .held) f) in
+      let f : anyB (lies (u32 r surfacePlace)) (L .held) ≡ false = no-of (anyB (lies (u32 r surfacePlace)) (L .held)) (left (not (anyB (lies (u32 r surfacePlace)) (L .held))) _ o3) in
+      let away = all-after (λ (e : Line). lies (u32 r surfacePlace) e ≡ false) (λ m e h. h) (events t) (L .held) (none-any (lies (u32 r surfacePlace)) (L .held) f) in
       let low = all-after (Below (L .begun)) (λ m e h. h) (events t) (L .held) (all-first (Below (L .begun)) (L .held) (L .current) (i .below)) in
       record {
         apart =
             sep-more (uponAll (events t) (L .held)) (lineOf r b) (sep-all (events t) (L .held) (sep-first (L .held) (L .current) (i .apart)))
-            (all-both (Below (L .begun)) (λ (e : Line). lies (u32 r 9) e ≡ false) (λ (h : Line). Off2 h (lineOf r b))
-            (λ e s y. record { serial = ne-eqb (e .serial .0) (b .serial .0) (λ z. absurd (omega (arith, s, z, n))); surface = flip (u32 r 9) (e .surface .0) y })
+            (all-both (Below (L .begun)) (λ (e : Line). lies (u32 r surfacePlace) e ≡ false) (λ (h : Line). Off2 h (lineOf r b))
+            (λ e s y. record { serial = ne-eqb (e .serial .0) (b .serial .0) (λ z. absurd (omega (arith, s, z, n))); surface = flip (u32 r surfacePlace) (e .surface .0) y })
             (uponAll (events t) (L .held)) low away);
         below =
             all-append (Below (L .begun + 1)) (uponAll (events t) (L .held)) (lineOf r b ∷ [])
@@ -98,8 +99,8 @@ module _ (L : Ledger) (r : List ℕ) (i : Tidy L) where
   unfolding tell
   tidy-tell (Reply.Refused kind n) o = i
   tidy-tell (Reply.Done kind t) o =
-      by-case Tidy (eqb kind 7) _ _ (λ _. record { apart = i .apart; below = i .below })
-      (λ _. by-case Tidy (eqb kind 8) _ _ (λ _. tidy-abandoned t) (λ _. tidy-landed kind t))
+      by-case Tidy (eqb kind endKind) _ _ (λ _. record { apart = i .apart; below = i .below })
+      (λ _. by-case Tidy (eqb kind abandonKind) _ _ (λ _. tidy-abandoned t) (λ _. tidy-landed kind t))
   tidy-tell (Reply.Started b t) o = tidy-started b t o
   tidy-tell (Reply.Listed l0 l1) o = record { apart = i .apart; below = i .below }
 
@@ -111,8 +112,8 @@ ok-tell : (L : Ledger) (r : List ℕ) (x : Reply) → tell L r x .ok ≡ true �
 unfolding tell
 ok-tell L r (Reply.Refused kind n) o = o
 ok-tell L r (Reply.Done kind t) o =
-    by-case (λ (M : Ledger). M .ok ≡ true → L .ok ≡ true) (eqb kind 7) _ _ (λ _. left (L .ok) _)
-    (λ _. by-case (λ (M : Ledger). M .ok ≡ true → L .ok ≡ true) (eqb kind 8) _ _ (λ _. left (L .ok) _) (λ _. left (L .ok) _)) o
+    by-case (λ (M : Ledger). M .ok ≡ true → L .ok ≡ true) (eqb kind endKind) _ _ (λ _. left (L .ok) _)
+    (λ _. by-case (λ (M : Ledger). M .ok ≡ true → L .ok ≡ true) (eqb kind abandonKind) _ _ (λ _. left (L .ok) _) (λ _. left (L .ok) _)) o
 ok-tell L r (Reply.Started b t) o = left (L .ok) _ o
 ok-tell L r (Reply.Listed l0 l1) o = left (L .ok) _ o
 

@@ -11,6 +11,7 @@ use Rattle.paper.specs.declared.Serial.{Serial}
 use Rattle.paper.specs.declared.Line.{Line}
 use Rattle.paper.specs.Words.{Test, _gives_, first, allB, anyB}
 use Rattle.paper.specs.Numbers.{u32}
+use Rattle.paper.specs.Kinds.{configureKind, finishKind, discardKind, endKind, abandonKind, replyTo, surfacePlace}
 use Rattle.paper.specs.Records.{kindOf}
 use Rattle.paper.specs.State.{Session, fresh}
 use Rattle.paper.specs.Sets.{inOrder}
@@ -30,7 +31,7 @@ use Rattle.paper.proofs.Sound.{Sound, good-step}
 use Rattle.paper.proofs.Heard.{hears}
 use Rattle.paper.proofs.Fits.{Fits, fit-decide}
 use Rattle.paper.proofs.Tidy.{no-of}
-use Rattle.paper.proofs.Demand3.{sound-fresh, sound-step}
+use Rattle.paper.proofs.LedgerTold.{sound-fresh, sound-step}
 
 event-none : (e : Event) (H : List Line) → may e H ≡ true → eventPart e H ≡ 0
 unfolding eventPart may first
@@ -53,8 +54,8 @@ module _ (L : Ledger) (r : List ℕ) where
       let o1 = right (L .ok) _ o in
       let o2 = right (none (L .current)) _ o1 in
       let o3 = right (eqb (b .serial .0) (L .begun)) _ o2 in
-      let f = no-of (anyB (lies (u32 r 9)) (L .held)) (left (not (anyB (lies (u32 r 9)) (L .held))) _ o3) in
-      let o4 = right (not (anyB (lies (u32 r 9)) (L .held))) _ o3 in
+      let f = no-of (anyB (lies (u32 r surfacePlace)) (L .held)) (left (not (anyB (lies (u32 r surfacePlace)) (L .held))) _ o3) in
+      let o4 = right (not (anyB (lies (u32 r surfacePlace)) (L .held))) _ o3 in
       let m = tail-none (events t) (L .held) (left (mayAll (events t) (L .held)) _ o4) in
       let o5 = right (mayAll (events t) (L .held)) _ o4 in
       rw (left (none (L .current)) _ o1, left (eqb (b .serial .0) (L .begun)) _ o2, f, m, left (clearing b t (uponAll (events t) (L .held))) _ o5, right (clearing b t (uponAll (events t) (L .held))) _ o5)
@@ -93,20 +94,20 @@ module _ (L : Ledger) (r : List ℕ) where
       let o1 = right (L .ok) _ o in
       let m = left (mayAll (events t) (L .held ++ L .current)) _ o1 in
       let o2 = right (mayAll (events t) (L .held ++ L .current)) _ o1 in
-      let a = left (none (t .thrown) || eqb kind 6) _ o2 in
-      let o3 = right (none (t .thrown) || eqb kind 6) _ o2 in
-      let b = left (none (uponAll (events t) (L .held ++ L .current)) || eqb kind 4) _ o3 in
-      let c = right (none (uponAll (events t) (L .held ++ L .current)) || eqb kind 4) _ o3 in
+      let a = left (none (t .thrown) || eqb kind discardKind) _ o2 in
+      let o3 = right (none (t .thrown) || eqb kind discardKind) _ o2 in
+      let b = left (none (uponAll (events t) (L .held ++ L .current)) || eqb kind finishKind) _ o3 in
+      let c = right (none (uponAll (events t) (L .held ++ L .current)) || eqb kind finishKind) _ o3 in
       rw
-      (and-none (eqb kind 4) (none (L .current)) c, or-none (eqb kind 6) (none (t .thrown)) a, tail-none (events t) (L .held ++ L .current) m, or-none (eqb kind 4) (none (uponAll (events t) (L .held ++ L .current))) b, le-ltb 16 (length (uponAll (events t) (L .held ++ L .current))) h)
+      (and-none (eqb kind finishKind) (none (L .current)) c, or-none (eqb kind discardKind) (none (t .thrown)) a, tail-none (events t) (L .held ++ L .current) m, or-none (eqb kind finishKind) (none (uponAll (events t) (L .held ++ L .current))) b, le-ltb 16 (length (uponAll (events t) (L .held ++ L .current))) h)
 
   reply-none : (x : Reply) → tell L r x .ok ≡ true → length (tell L r x .held) ≤ 16 → replyPart L r x ≡ 0
   unfolding replyPart tell
   reply-none (Reply.Refused kind n) o h = refl
   reply-none (Reply.Done kind t) o h =
-      split (eqb kind 7)
+      split (eqb kind endKind)
       (λ p. rw p (end-none t (rw p at o)))
-      (λ p. split (eqb kind 8) (λ q. rw (p, q) (abandon-none t (rw (p, q) at o))) (λ q. rw (p, q) (landed-none kind t (rw (p, q) at o) (rw (p, q) at h))))
+      (λ p. split (eqb kind abandonKind) (λ q. rw (p, q) (abandon-none t (rw (p, q) at o))) (λ q. rw (p, q) (landed-none kind t (rw (p, q) at o) (rw (p, q) at h))))
   reply-none (Reply.Started b t) o h = started-none b t o
   reply-none (Reply.Listed l0 l1) o h = listed-none l0 l1 o
 
@@ -119,7 +120,7 @@ knows s r =
     by-ways s r Knows
     (record {
       malformed = record { is = (refl, omega arith) };
-      no = λ kind n k g b l h. record { is = (or-left _ _ (both (le-leb 257 (256 + kind) (omega arith)) (le-leb (256 + kind) 264 (omega arith))), omega arith) };
+      no = λ kind n k g b l h. record { is = (or-left _ _ (both (le-leb (replyTo configureKind) (replyTo kind) (omega arith)) (le-leb (replyTo kind) (replyTo abandonKind) (omega arith))), omega arith) };
       configure = λ k a b. record { is = (omega arith, omega arith) };
       begin = λ k z. record { is = tt };
       lists = λ k c e z. record { is = tt };

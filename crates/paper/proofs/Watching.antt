@@ -11,6 +11,7 @@ use Rattle.paper.specs.declared.Serial.{Serial}
 use Rattle.paper.specs.declared.Line.{Line}
 use Rattle.paper.specs.Words.{Test, _gives_, first, allB, anyB}
 use Rattle.paper.specs.Numbers.{u32}
+use Rattle.paper.specs.Kinds.{finishKind, discardKind, endKind, abandonKind, surfacePlace}
 use Rattle.paper.specs.Sets.{inOrder}
 use Rattle.paper.specs.Output.{Tail}
 use Rattle.paper.specs.Replies.{Begun, Reply}
@@ -55,11 +56,11 @@ module _ (L : Ledger) (r : List ℕ) (o : L .ok ≡ true) where
   started-ok b t z =
       let t1 = first-none (not (none (L .current))) 3 _ (λ e. omega arith) z in
       let t2 = first-none (not (eqb (b .serial .0) (L .begun))) 4 _ (λ e. omega arith) (t1 .1) in
-      let t3 = first-none (anyB (lies (u32 r 9)) (L .held)) 5 _ (λ e. omega arith) (t2 .1) in
+      let t3 = first-none (anyB (lies (u32 r surfacePlace)) (L .held)) 5 _ (λ e. omega arith) (t2 .1) in
       let t4 = said-none (tailPart (events t) (L .held)) _ (t3 .1) in
       let t6 = first-none (not (clearing b t (uponAll (events t) (L .held)))) 19 _ (λ e. omega arith) (t4 .1) in
       let t5 = first-none (not (names (inOrder (b .sets)) (uponAll (events t) (L .held)))) 12 [] (λ e. omega arith) (t6 .1) in
-      both o (both (yes-of (none (L .current)) (t1 .0)) (both (yes-of (eqb (b .serial .0) (L .begun)) (t2 .0)) (both {a = not (anyB (lies (u32 r 9)) (L .held))} (rw (t3 .0)) (both (tail-may (events t) (L .held) (t4 .0)) (both (yes-of (clearing b t (uponAll (events t) (L .held))) (t6 .0)) (yes-of (names (inOrder (b .sets)) (uponAll (events t) (L .held))) (t5 .0)))))))
+      both o (both (yes-of (none (L .current)) (t1 .0)) (both (yes-of (eqb (b .serial .0) (L .begun)) (t2 .0)) (both {a = not (anyB (lies (u32 r surfacePlace)) (L .held))} (rw (t3 .0)) (both (tail-may (events t) (L .held) (t4 .0)) (both (yes-of (clearing b t (uponAll (events t) (L .held))) (t6 .0)) (yes-of (names (inOrder (b .sets)) (uponAll (events t) (L .held))) (t5 .0)))))))
 
   listed-ok : (l0 l1 : List Serial) → listedPart L (l0 ++ l1) ≡ 0 → tell L r (Reply.Listed l0 l1) .ok ≡ true
   unfolding tell
@@ -93,19 +94,19 @@ module _ (L : Ledger) (r : List ℕ) (o : L .ok ≡ true) where
 
   landed-ok : (kind : ℕ) (t : Tail) → landedPart kind L t ≡ 0 → landed kind L t .ok ≡ true
   landed-ok kind t z =
-      let t1 = first-none (eqb kind 4 && none (L .current)) 13 _ (λ e. omega arith) z in
-      let t2 = first-none (not (eqb kind 6) && not (none (t .thrown))) 9 _ (λ e. omega arith) (t1 .1) in
+      let t1 = first-none (eqb kind finishKind && none (L .current)) 13 _ (λ e. omega arith) z in
+      let t2 = first-none (not (eqb kind discardKind) && not (none (t .thrown))) 9 _ (λ e. omega arith) (t1 .1) in
       let t3 = said-none (tailPart (events t) (L .held ++ L .current)) _ (t2 .1) in
-      let t4 = first-none (not (eqb kind 4) && not (none (uponAll (events t) (L .held ++ L .current)))) 15 _ (λ e. omega arith) (t3 .1) in
-      both o (both (tail-may (events t) (L .held ++ L .current) (t3 .0)) (both (or-of (eqb kind 6) (none (t .thrown)) (t2 .0)) (both (or-of (eqb kind 4) (none (uponAll (events t) (L .held ++ L .current))) (t4 .0)) (and-of (eqb kind 4) (none (L .current)) (t1 .0)))))
+      let t4 = first-none (not (eqb kind finishKind) && not (none (uponAll (events t) (L .held ++ L .current)))) 15 _ (λ e. omega arith) (t3 .1) in
+      both o (both (tail-may (events t) (L .held ++ L .current) (t3 .0)) (both (or-of (eqb kind discardKind) (none (t .thrown)) (t2 .0)) (both (or-of (eqb kind finishKind) (none (uponAll (events t) (L .held ++ L .current))) (t4 .0)) (and-of (eqb kind finishKind) (none (L .current)) (t1 .0)))))
 
   reply-ok : (x : Reply) → replyPart L r x ≡ 0 → tell L r x .ok ≡ true
   unfolding replyPart tell
   reply-ok (Reply.Refused kind n) z = o
   reply-ok (Reply.Done kind t) z =
-      split (eqb kind 7)
+      split (eqb kind endKind)
       (λ p. rw p (end-ok t (rw p at z)))
-      (λ p. split (eqb kind 8) (λ q. rw (p, q) (abandon-ok t (rw (p, q) at z))) (λ q. rw (p, q) (landed-ok kind t (rw (p, q) at z))))
+      (λ p. split (eqb kind abandonKind) (λ q. rw (p, q) (abandon-ok t (rw (p, q) at z))) (λ q. rw (p, q) (landed-ok kind t (rw (p, q) at z))))
   reply-ok (Reply.Started b t) z = started-ok b t z
   reply-ok (Reply.Listed l0 l1) z = listed-ok l0 l1 z
 

@@ -13,6 +13,7 @@ use Rattle.paper.specs.declared.Surface.{Surface}
 use Rattle.paper.specs.declared.Shown.{Shown}
 use Rattle.paper.specs.Words.{flat}
 use Rattle.paper.specs.Numbers.{u8, u16, bytes16, bytes32, serialNos, surfaceNos}
+use Rattle.paper.specs.Kinds.{configureKind, beginKind, listsKind, abandonKind, replyTo, malformedReply, wordWidth, shownWidth, membersPlace}
 use Rattle.paper.specs.Sets.{Sets, inOrder}
 use Rattle.paper.specs.Output.{Tail}
 use Rattle.paper.specs.Replies.{Begun, Reply, shownBytes, words, tailBytes, begunBytes, framed, bytesOf}
@@ -36,7 +37,7 @@ module _ (xs : List ℕ) (t : Tail) (at : ℕ) (e : at ≡ length xs) where
   abbrev R : List ℕ
   R = length (t .released) ∷ words (surfaceNos (t .released))
 
-  thrown-at : thrownAt (xs ++ tailBytes t) at ≡ length (xs ++ H)
+  thrown-at : thrownAt shownWidth (xs ++ tailBytes t) at ≡ length (xs ++ H)
   unfolding tailBytes
   thrown-at =
       let a : u8 (xs ++ tailBytes t) at ≡ length (t .handed) = behind xs (tailBytes t) at e in
@@ -49,28 +50,28 @@ module _ (xs : List ℕ) (t : Tail) (at : ℕ) (e : at ≡ length xs) where
   behind-thrown : xs ++ tailBytes t ≡ ((xs ++ H) ++ T) ++ R
   behind-thrown = behind-handed ∙ sym (append-assoc (xs ++ H) T R)
 
-  released-at : releasedAt (xs ++ tailBytes t) at ≡ length ((xs ++ H) ++ T)
+  released-at : releasedAt shownWidth (xs ++ tailBytes t) at ≡ length ((xs ++ H) ++ T)
   released-at =
-      let a : u8 (xs ++ tailBytes t) (thrownAt (xs ++ tailBytes t) at) ≡ length (t .thrown) =
-      ap (λ (l : List ℕ). u8 l (thrownAt (xs ++ tailBytes t) at)) behind-handed ∙ behind (xs ++ H) (T ++ R) (thrownAt (xs ++ tailBytes t) at) thrown-at in
+      let a : u8 (xs ++ tailBytes t) (thrownAt shownWidth (xs ++ tailBytes t) at) ≡ length (t .thrown) =
+      ap (λ (l : List ℕ). u8 l (thrownAt shownWidth (xs ++ tailBytes t) at)) behind-handed ∙ behind (xs ++ H) (T ++ R) (thrownAt shownWidth (xs ++ tailBytes t) at) thrown-at in
       omega (arith, a, thrown-at, length-append (xs ++ H) T, words-length (serialNos (t .thrown)), length-map (t .thrown) (λ (n : Serial). n .0))
 
-  pub tail-end : tailEnd (xs ++ tailBytes t) at ≡ length (xs ++ tailBytes t)
+  pub tail-end : tailEnd shownWidth (xs ++ tailBytes t) at ≡ length (xs ++ tailBytes t)
   tail-end =
-      let a : u8 (xs ++ tailBytes t) (releasedAt (xs ++ tailBytes t) at) ≡ length (t .released) =
-      ap (λ (l : List ℕ). u8 l (releasedAt (xs ++ tailBytes t) at)) behind-thrown ∙ behind ((xs ++ H) ++ T) R (releasedAt (xs ++ tailBytes t) at) released-at in
+      let a : u8 (xs ++ tailBytes t) (releasedAt shownWidth (xs ++ tailBytes t) at) ≡ length (t .released) =
+      ap (λ (l : List ℕ). u8 l (releasedAt shownWidth (xs ++ tailBytes t) at)) behind-thrown ∙ behind ((xs ++ H) ++ T) R (releasedAt shownWidth (xs ++ tailBytes t) at) released-at in
       let b = ap length behind-thrown in
       omega (arith, a, b, released-at, length-append ((xs ++ H) ++ T) R, words-length (surfaceNos (t .released)), length-map (t .released) (λ (x : Surface). x .0))
 
 -- the kinds that a session writes
 abbrev pub Known : Reply → Type 0
-Known (Reply.Refused kind n) = (((leb 257 kind && leb kind 264) || eqb kind 511) ≡ true) × (kind < 65536)
+Known (Reply.Refused kind n) = (((leb (replyTo configureKind) kind && leb kind (replyTo abandonKind)) || eqb kind malformedReply) ≡ true) × (kind < 65536)
 Known (Reply.Done kind t) = (0 < kind) × (kind < 9)
 Known (Reply.Started b t) = Unit {0}
 Known (Reply.Listed l0 l1) = Unit {0}
 
 -- a head that says its length, a known kind, and an end where the bytes end
-framed-whole : (kind number : ℕ) (rest : List ℕ) → kind < 65536 → number < 65536 → length rest ≤ 506 → ((leb 257 kind && leb kind 264) || (eqb kind 511 && not (eqb number 0))) ≡ true
+framed-whole : (kind number : ℕ) (rest : List ℕ) → kind < 65536 → number < 65536 → length rest ≤ 506 → ((leb (replyTo configureKind) kind && leb kind (replyTo abandonKind)) || (eqb kind malformedReply && not (eqb number 0))) ≡ true
     → replyEnd (framed kind number rest) ≡ length (framed kind number rest) → wholeReply (framed kind number rest) ≡ true
 unfolding wholeReply
 framed-whole kind number rest k n l known end =
@@ -90,25 +91,25 @@ refused-end : (kind n : ℕ) → n < 65536 → (n ≡ 0 → ⊥) → replyEnd (f
 unfolding replyEnd
 refused-end kind n h z = let c : u16 (framed kind n []) 4 ≡ n = two-back n h in rw (c, ne-eqb n 0 z)
 
-done-end : (kind : ℕ) (t : Tail) → kind < 9 → (kind ≡ 2 → ⊥) → (kind ≡ 3 → ⊥) → replyEnd (framed (256 + kind) 0 (tailBytes t)) ≡ length (framed (256 + kind) 0 (tailBytes t))
+done-end : (kind : ℕ) (t : Tail) → kind < 9 → (kind ≡ beginKind → ⊥) → (kind ≡ listsKind → ⊥) → replyEnd (framed (replyTo kind) 0 (tailBytes t)) ≡ length (framed (replyTo kind) 0 (tailBytes t))
 unfolding replyEnd
 done-end kind t h z2 z3 =
-    let b : u16 (framed (256 + kind) 0 (tailBytes t)) 2 ≡ 256 + kind = two-back (256 + kind) (omega arith) in
-    let e = tail-end (bytes16 (2 + length (tailBytes t)) ++ bytes16 (256 + kind) ++ bytes16 0) t 6 refl in
-    rw (b, ne-eqb (256 + kind) 258 (λ q. z2 (omega arith)), ne-eqb (256 + kind) 259 (λ q. z3 (omega arith))) e
+    let b : u16 (framed (replyTo kind) 0 (tailBytes t)) 2 ≡ replyTo kind = two-back (replyTo kind) (omega arith) in
+    let e = tail-end (bytes16 (2 + length (tailBytes t)) ++ bytes16 (replyTo kind) ++ bytes16 0) t 6 refl in
+    rw (b, ne-eqb (replyTo kind) (replyTo beginKind) (λ q. z2 (omega arith)), ne-eqb (replyTo kind) (replyTo listsKind) (λ q. z3 (omega arith))) e
 
-members : (b : Begun) (t : Tail) → membersOf (framed 258 0 (begunBytes b ++ tailBytes t)) ≡ length (inOrder (b .sets))
+members : (b : Begun) (t : Tail) → membersOf (framed (replyTo beginKind) 0 (begunBytes b ++ tailBytes t)) ≡ length (inOrder (b .sets))
 unfolding begunBytes bytes32
 members b t = sym (length-order (b .sets))
 
-started-end : (b : Begun) (t : Tail) → replyEnd (framed 258 0 (begunBytes b ++ tailBytes t)) ≡ length (framed 258 0 (begunBytes b ++ tailBytes t))
+started-end : (b : Begun) (t : Tail) → replyEnd (framed (replyTo beginKind) 0 (begunBytes b ++ tailBytes t)) ≡ length (framed (replyTo beginKind) 0 (begunBytes b ++ tailBytes t))
 unfolding replyEnd
 started-end b t =
-    let six = bytes16 (2 + length (begunBytes b ++ tailBytes t)) ++ bytes16 258 ++ bytes16 0 in
-    let m : membersOf (framed 258 0 (begunBytes b ++ tailBytes t)) ≡ length (inOrder (b .sets)) = members b t in
-    tail-end (six ++ begunBytes b) t (20 + 4 * membersOf (framed 258 0 (begunBytes b ++ tailBytes t))) (omega (arith, m, begun-length b))
+    let six = bytes16 (2 + length (begunBytes b ++ tailBytes t)) ++ bytes16 (replyTo beginKind) ++ bytes16 0 in
+    let m : membersOf (framed (replyTo beginKind) 0 (begunBytes b ++ tailBytes t)) ≡ length (inOrder (b .sets)) = members b t in
+    tail-end (six ++ begunBytes b) t (membersPlace + wordWidth * membersOf (framed (replyTo beginKind) 0 (begunBytes b ++ tailBytes t))) (omega (arith, m, begun-length b))
 
-listed-end : (l0 l1 : List Serial) → replyEnd (framed 259 0 (length l0 ∷ length l1 ∷ words (serialNos (l0 ++ l1)))) ≡ length (framed 259 0 (length l0 ∷ length l1 ∷ words (serialNos (l0 ++ l1))))
+listed-end : (l0 l1 : List Serial) → replyEnd (framed (replyTo listsKind) 0 (length l0 ∷ length l1 ∷ words (serialNos (l0 ++ l1)))) ≡ length (framed (replyTo listsKind) 0 (length l0 ∷ length l1 ∷ words (serialNos (l0 ++ l1))))
 unfolding replyEnd
 listed-end l0 l1 = omega (arith, words-length (serialNos (l0 ++ l1)), length-map (l0 ++ l1) (λ (n : Serial). n .0), length-append l0 l1)
 
@@ -118,8 +119,8 @@ unfolding bytesOf
 whole-back (Reply.Refused kind n) f k l =
     framed-whole kind n [] (k .1) (f .1) (omega arith) (rw (ne-eqb n 0 (f .2), mathlib.Core.Bool.and-true) (k .0)) (refused-end kind n (f .1) (f .2))
 whole-back (Reply.Done kind t) f k l =
-    framed-whole (256 + kind) 0 (tailBytes t) (omega arith) (omega arith) (omega (arith, l)) (or-left _ _ (both (le-leb 257 (256 + kind) (omega (arith, k .0))) (le-leb (256 + kind) 264 (omega (arith, k .1)))))
+    framed-whole (replyTo kind) 0 (tailBytes t) (omega arith) (omega arith) (omega (arith, l)) (or-left _ _ (both (le-leb (replyTo configureKind) (replyTo kind) (omega (arith, k .0))) (le-leb (replyTo kind) (replyTo abandonKind) (omega (arith, k .1)))))
     (done-end kind t (k .1) (f .1) (f .2))
-whole-back (Reply.Started b t) f k l = framed-whole 258 0 (begunBytes b ++ tailBytes t) (omega arith) (omega arith) (omega (arith, l)) refl (started-end b t)
+whole-back (Reply.Started b t) f k l = framed-whole (replyTo beginKind) 0 (begunBytes b ++ tailBytes t) (omega arith) (omega arith) (omega (arith, l)) refl (started-end b t)
 whole-back (Reply.Listed l0 l1) f k l =
-    framed-whole 259 0 (length l0 ∷ length l1 ∷ words (serialNos (l0 ++ l1))) (omega arith) (omega arith) (omega (arith, l)) refl (listed-end l0 l1)
+    framed-whole (replyTo listsKind) 0 (length l0 ∷ length l1 ∷ words (serialNos (l0 ++ l1))) (omega arith) (omega arith) (omega (arith, l)) refl (listed-end l0 l1)

@@ -11,6 +11,8 @@ use Rattle.paper.specs.declared.Shown.{Shown}
 use Rattle.paper.specs.declared.Line.{Line}
 use Rattle.paper.specs.Words.{keep, allB, anyB}
 use Rattle.paper.specs.Numbers.{u8, u16, u32, i32, bit, missing, aSerial, aSurface, sameSerial}
+use Rattle.paper.specs.Kinds.{beginKind, listsKind, finishKind, discardKind, endKind, abandonKind, replyOffset, replyTo, malformedReply, numberPlace, restPlace, listsPlace, surfacePlace, begunFlags, begunSerial, begunCounts, begunMembers, fiveCounts, wordWidth, shownWidth}
+use Rattle.paper.specs.Records.{kindOf}
 use Rattle.paper.specs.Poc.{eqZ}
 use Rattle.paper.specs.Sets.{Sets, inOrder}
 use Rattle.paper.specs.Output.{Tail}
@@ -20,14 +22,14 @@ use Rattle.paper.specs.Replies.{Begun, Reply}
 
 unfoldable pub readWords : ℕ → List ℕ → List ℕ
 readWords zero bs = []
-readWords (suc n) bs = u32 bs 0 ∷ readWords n (drop 4 bs)
+readWords (suc n) bs = u32 bs 0 ∷ readWords n (drop wordWidth bs)
 
 abbrev pub readSerials : ℕ → List ℕ → List Serial
 readSerials n bs = map aSerial (readWords n bs)
 
 unfoldable pub readShown : ℕ → List ℕ → List Shown
 readShown zero bs = []
-readShown (suc n) bs = record { serial = aSerial (u32 bs 0); surface = aSurface (u32 bs 4); poc = i32 bs 8 } ∷ readShown n (drop 12 bs)
+readShown (suc n) bs = record { serial = aSerial (u32 bs 0); surface = aSurface (u32 bs wordWidth); poc = i32 bs (2 * wordWidth) } ∷ readShown n (drop shownWidth bs)
 
 -- a count, and as many serials or surfaces; behind it another
 unfoldable pub readReleased : List ℕ → List ℕ
@@ -37,8 +39,8 @@ unfoldable pub readTail : List ℕ → Tail
 readTail bs =
     record {
       handed = readShown (u8 bs 0) (drop 1 bs);
-      thrown = map aSerial (readReleased (drop (12 * u8 bs 0) (drop 1 bs)));
-      released = map aSurface (readReleased (drop (4 * u8 (drop (12 * u8 bs 0) (drop 1 bs)) 0) (drop 1 (drop (12 * u8 bs 0) (drop 1 bs)))));
+      thrown = map aSerial (readReleased (drop (shownWidth * u8 bs 0) (drop 1 bs)));
+      released = map aSurface (readReleased (drop (wordWidth * u8 (drop (shownWidth * u8 bs 0) (drop 1 bs)) 0) (drop 1 (drop (shownWidth * u8 bs 0) (drop 1 bs)))));
     }
 
 -- five counts and the words behind them
@@ -46,33 +48,33 @@ unfoldable pub readSets : ℕ → ℕ → ℕ → ℕ → ℕ → List ℕ → S
 readSets a b c d e ws =
     record {
       before = readSerials a ws;
-      after = readSerials b (drop (4 * a) ws);
-      foll = readSerials c (drop (4 * b) (drop (4 * a) ws));
-      ltCurr = readSerials d (drop (4 * c) (drop (4 * b) (drop (4 * a) ws)));
-      ltFoll = readSerials e (drop (4 * d) (drop (4 * c) (drop (4 * b) (drop (4 * a) ws))));
+      after = readSerials b (drop (wordWidth * a) ws);
+      foll = readSerials c (drop (wordWidth * b) (drop (wordWidth * a) ws));
+      ltCurr = readSerials d (drop (wordWidth * c) (drop (wordWidth * b) (drop (wordWidth * a) ws)));
+      ltFoll = readSerials e (drop (wordWidth * d) (drop (wordWidth * c) (drop (wordWidth * b) (drop (wordWidth * a) ws))));
     }
 
 unfoldable pub readBegun : List ℕ → Begun
 readBegun bs =
     record {
       poc = i32 bs 0;
-      noRasl = bit 0 (u8 bs 4);
-      output = bit 1 (u8 bs 4);
-      valid = bit 2 (u8 bs 4);
-      noPrior = bit 3 (u8 bs 4);
-      serial = aSerial (u32 bs 5);
-      sets = readSets (u8 bs 9) (u8 bs 10) (u8 bs 11) (u8 bs 12) (u8 bs 13) (drop 14 bs);
+      noRasl = bit 0 (u8 bs begunFlags);
+      output = bit 1 (u8 bs begunFlags);
+      valid = bit 2 (u8 bs begunFlags);
+      noPrior = bit 3 (u8 bs begunFlags);
+      serial = aSerial (u32 bs begunSerial);
+      sets = readSets (u8 bs begunCounts) (u8 bs (begunCounts + 1)) (u8 bs (begunCounts + 2)) (u8 bs (begunCounts + 3)) (u8 bs (begunCounts + 4)) (drop begunMembers bs);
     }
 
 abbrev pub setWords : List ℕ → ℕ
-setWords bs = u8 bs 9 + u8 bs 10 + u8 bs 11 + u8 bs 12 + u8 bs 13
+setWords bs = fiveCounts bs begunCounts
 
 unfoldable pub readReply : List ℕ → Reply
 readReply bs =
-    cond (not (eqb (u16 bs 4) 0)) (Reply.Refused (u16 bs 2) (u16 bs 4))
-    (cond (eqb (u16 bs 2) 258) (Reply.Started (readBegun (drop 6 bs)) (readTail (drop (4 * setWords (drop 6 bs)) (drop 14 (drop 6 bs)))))
-    (cond (eqb (u16 bs 2) 259) (Reply.Listed (readSerials (u8 bs 6) (drop 8 bs)) (readSerials (u8 bs 7) (drop (4 * u8 bs 6) (drop 8 bs))))
-    (Reply.Done (u16 bs 2 - 256) (readTail (drop 6 bs)))))
+    cond (not (eqb (u16 bs numberPlace) 0)) (Reply.Refused (kindOf bs) (u16 bs numberPlace))
+    (cond (eqb (kindOf bs) (replyTo beginKind)) (Reply.Started (readBegun (drop restPlace bs)) (readTail (drop (wordWidth * setWords (drop restPlace bs)) (drop begunMembers (drop restPlace bs)))))
+    (cond (eqb (kindOf bs) (replyTo listsKind)) (Reply.Listed (readSerials (u8 bs restPlace) (drop listsPlace bs)) (readSerials (u8 bs (restPlace + 1)) (drop (wordWidth * u8 bs restPlace) (drop listsPlace bs))))
+    (Reply.Done (kindOf bs - replyOffset) (readTail (drop restPlace bs)))))
 
 -- The ledger: a line for each picture whose surface is unreleased since its begin.
 -- `wants`: it was begun with output flag 1, and was neither handed out nor thrown away.
@@ -147,7 +149,7 @@ abbrev pub clearing : Begun → Tail → List Line → Bool
 clearing b t H = none (t .thrown) || (b .noPrior && (none (t .handed) && none H))
 
 abbrev pub lineOf : List ℕ → Begun → Line
-lineOf r b = record { serial = b .serial; surface = aSurface (u32 r 9); poc = b .poc; wants = b .output }
+lineOf r b = record { serial = b .serial; surface = aSurface (u32 r surfacePlace); poc = b .poc; wants = b .output }
 
 -- finish, drain, configure, discard: the current picture goes to the stored ones, then the tail.
 -- Drain, configure and discard leave nothing; finish has a current picture. Only begin, discard and abandon throw away.
@@ -159,8 +161,8 @@ landed kind L t =
       begun = L .begun;
       ok =
           L .ok && (mayAll (events t) (L .held ++ L .current)
-          && ((none (t .thrown) || eqb kind 6) && ((none (uponAll (events t) (L .held ++ L .current)) || eqb kind 4)
-          && (not (none (L .current)) || not (eqb kind 4)))));
+          && ((none (t .thrown) || eqb kind discardKind) && ((none (uponAll (events t) (L .held ++ L .current)) || eqb kind finishKind)
+          && (not (none (L .current)) || not (eqb kind finishKind)))));
     }
 
 -- abandon: the tail is all of the current picture
@@ -179,26 +181,26 @@ unchanged L t = record { held = L .held; current = L .current; begun = L .begun;
 
 unfoldable pub tell : Ledger → List ℕ → Reply → Ledger
 tell L r (Reply.Refused kind n) = L
-tell L r (Reply.Done kind t) = cond (eqb kind 7) (unchanged L t) (cond (eqb kind 8) (abandoned L t) (landed kind L t))
+tell L r (Reply.Done kind t) = cond (eqb kind endKind) (unchanged L t) (cond (eqb kind abandonKind) (abandoned L t) (landed kind L t))
 tell L r (Reply.Started b t) =
     record {
       held = uponAll (events t) (L .held);
       current = lineOf r b ∷ [];
       begun = L .begun + 1;
       ok =
-          L .ok && (none (L .current) && (eqb (b .serial .0) (L .begun) && (not (anyB (lies (u32 r 9)) (L .held))
+          L .ok && (none (L .current) && (eqb (b .serial .0) (L .begun) && (not (anyB (lies (u32 r surfacePlace)) (L .held))
           && (mayAll (events t) (L .held) && (clearing b t (uponAll (events t) (L .held))
           && names (inOrder (b .sets)) (uponAll (events t) (L .held)))))));
     }
 tell L r (Reply.Listed l0 l1) =
     record { held = L .held; current = L .current; begun = L .begun; ok = L .ok && (not (none (L .current)) && names (l0 ++ l1) (L .held ++ L .current)) }
 
--- the reply is one to that record: its kind is 256 + the record's kind, or 511 for number 13
+-- the reply is one to that record: its kind is the one for the record's kind, or that of number 13
 unfoldable pub heard : List ℕ → Reply → Bool
-heard r (Reply.Refused kind n) = cond (eqb n 13) (eqb kind 511) (eqb kind (256 + u16 r 2))
-heard r (Reply.Done kind t) = eqb kind (u16 r 2)
-heard r (Reply.Started b t) = eqb 2 (u16 r 2)
-heard r (Reply.Listed l0 l1) = eqb 3 (u16 r 2)
+heard r (Reply.Refused kind n) = cond (eqb n 13) (eqb kind malformedReply) (eqb kind (replyTo (kindOf r)))
+heard r (Reply.Done kind t) = eqb kind (kindOf r)
+heard r (Reply.Started b t) = eqb beginKind (kindOf r)
+heard r (Reply.Listed l0 l1) = eqb listsKind (kindOf r)
 
 abbrev pub hear : Ledger → List ℕ → Reply → Ledger
 hear L r x = record { held = tell L r x .held; current = tell L r x .current; begun = tell L r x .begun; ok = heard r x && tell L r x .ok }

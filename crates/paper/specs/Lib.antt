@@ -1,5 +1,6 @@
 pub mod Words
 pub mod Numbers
+pub mod Kinds
 pub mod Records
 pub mod State
 pub mod Nal

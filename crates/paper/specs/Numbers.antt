@@ -20,6 +20,9 @@ u16 s at = u8 s at + 256 * u8 s (at + 1)
 abbrev pub u32 : List ℕ → ℕ → ℕ
 u32 s at = u16 s at + 65536 * u16 s (at + 2)
 
+abbrev pub u64 : List ℕ → ℕ → ℕ
+u64 s at = u32 s at + 4294967296 * u32 s (at + 4)
+
 abbrev pub i32 : List ℕ → ℕ → ℤ
 i32 s at = toZ w32 (u32 s at)
 
@@ -28,6 +31,9 @@ bytes16 n = n % 256 ∷ n / 256 % 256 ∷ []
 
 unfoldable pub bytes32 : ℕ → List ℕ
 bytes32 n = n % 256 ∷ n / 256 % 256 ∷ n / 65536 % 256 ∷ n / 16777216 % 256 ∷ []
+
+abbrev pub bytes64 : ℕ → List ℕ
+bytes64 n = bytes32 (n % 4294967296) ++ bytes32 (n / 4294967296)
 
 abbrev pub signed32 : ℤ → List ℕ
 signed32 z = bytes32 (ofZ w32 z)

@@ -10,13 +10,14 @@ use Rattle.paper.specs.declared.ShortEntry.{ShortEntry}
 use Rattle.paper.specs.declared.LongEntry.{LongEntry}
 use Rattle.paper.specs.Words.{table}
 use Rattle.paper.specs.Numbers.{u8, u16, u32, i32, bit, aSurface, bodyLimit}
+use Rattle.paper.specs.Kinds.{configureKind, beginKind, listsKind, finishKind, abandonKind, kindPlace, bodyPlace, surfacePlace}
 
 -- "A record is u16 body length, u16 kind, body."
 abbrev pub lengthOf : List ℕ → ℕ
 lengthOf r = u16 r 0
 
 abbrev pub kindOf : List ℕ → ℕ
-kindOf r = u16 r 2
+kindOf r = u16 r kindPlace
 
 -- "1 configure: k u8, capacity u8, buffering u8, reorder u8, latency u16"
 abbrev pub limitsOf : List ℕ → Limits
@@ -47,7 +48,7 @@ fieldsOf r =
       tid = u8 r 5;
       flags = u8 r 6;
       lsb = u16 r 7;
-      surface = aSurface (u32 r 9);
+      surface = aSurface (u32 r surfacePlace);
       neg = table (shortAt r 16) (u8 r 13);
       pos = table (shortAt r (16 + 5 * u8 r 13)) (u8 r 14);
       lt = table (longAt r (16 + 5 * (u8 r 13 + u8 r 14))) (u8 r 15);
@@ -89,11 +90,11 @@ sliceOf r =
 -- the body length that kind and counts call for; "4 finish, 5 drain, 6 discard, 7 end of sequence, 8 abandon: empty"
 abbrev pub bodyOk : List ℕ → Bool
 bodyOk r =
-    cond (eqb (kindOf r) 1) (eqb (lengthOf r) 6)
-    (cond (eqb (kindOf r) 2) (eqb (lengthOf r) (12 + 5 * (u8 r 13 + u8 r 14) + 7 * u8 r 15))
-    (cond (eqb (kindOf r) 3) (eqb (lengthOf r) (4 + entries0 r + entries1 r))
-    (leb 4 (kindOf r) && leb (kindOf r) 8 && eqb (lengthOf r) 0)))
+    cond (eqb (kindOf r) configureKind) (eqb (lengthOf r) 6)
+    (cond (eqb (kindOf r) beginKind) (eqb (lengthOf r) (12 + 5 * (u8 r 13 + u8 r 14) + 7 * u8 r 15))
+    (cond (eqb (kindOf r) listsKind) (eqb (lengthOf r) (4 + entries0 r + entries1 r))
+    (leb finishKind (kindOf r) && leb (kindOf r) abandonKind && eqb (lengthOf r) 0)))
 
 -- number 13: "slice not exactly head plus body, body over 512 bytes, unknown kind, or body length not what kind and counts call for"
 unfoldable pub wellFormed : List ℕ → Bool
-wellFormed r = leb 4 (length r) && eqb (length r) (4 + lengthOf r) && leb (lengthOf r) bodyLimit && bodyOk r
+wellFormed r = leb bodyPlace (length r) && eqb (length r) (bodyPlace + lengthOf r) && leb (lengthOf r) bodyLimit && bodyOk r

@@ -8,6 +8,7 @@ use Rattle.paper.specs.declared.Serial.{Serial}
 use Rattle.paper.specs.declared.Shown.{Shown}
 use Rattle.paper.specs.Words.{flat}
 use Rattle.paper.specs.Numbers.{bytes16, bytes32, signed32, flagAt, serialNos, surfaceNos}
+use Rattle.paper.specs.Kinds.{beginKind, listsKind, replyTo}
 use Rattle.paper.specs.Sets.{Sets, inOrder}
 use Rattle.paper.specs.Output.{Tail}
 
@@ -61,6 +62,6 @@ framed kind number rest = bytes16 (2 + length rest) ++ bytes16 kind ++ bytes16 n
 -- lengths, the u32 serials."
 unfoldable pub bytesOf : Reply → List ℕ
 bytesOf (Refused kind number) = framed kind number []
-bytesOf (Done kind t) = framed (256 + kind) 0 (tailBytes t)
-bytesOf (Started b t) = framed 258 0 (begunBytes b ++ tailBytes t)
-bytesOf (Listed l0 l1) = framed 259 0 (length l0 ∷ length l1 ∷ words (serialNos (l0 ++ l1)))
+bytesOf (Done kind t) = framed (replyTo kind) 0 (tailBytes t)
+bytesOf (Started b t) = framed (replyTo beginKind) 0 (begunBytes b ++ tailBytes t)
+bytesOf (Listed l0 l1) = framed (replyTo listsKind) 0 (length l0 ∷ length l1 ∷ words (serialNos (l0 ++ l1)))

@@ -9,6 +9,7 @@ use Rattle.paper.specs.declared.Current.{Current}
 use Rattle.paper.specs.declared.Picture.{Picture}
 use Rattle.paper.specs.Words.{allB}
 use Rattle.paper.specs.Numbers.{u32, sameSerial, replyLimit}
+use Rattle.paper.specs.Kinds.{beginKind, discardKind, abandonKind, surfacePlace}
 use Rattle.paper.specs.Records.{kindOf}
 use Rattle.paper.specs.State.{Session, fresh, onNow}
 use Rattle.paper.specs.Output.{Tail}
@@ -46,7 +47,7 @@ Begins x b t = readReply (x .answered) ≡ Reply.Started b t
 
 -- the surface that a begin names
 abbrev pub onSurface : Exchange → ℕ
-onSurface x = u32 (x .said) 9
+onSurface x = u32 (x .said) surfacePlace
 
 -- the ledger that they tell was in order all the way: each reply is one to its record, and each tail, set and list agrees with what is held
 abbrev pub InOrder : List Exchange → Type 0
@@ -79,11 +80,11 @@ HeldFrom xs = (bs ls : List Exchange) (x : Exchange) (b : Begun) (t : Tail) → 
 abbrev pub Free : List Exchange → Type 0
 Free xs = (bs ls : List Exchange) (x : Exchange) (b : Begun) (t : Tail) → xs ≡ bs ++ (x ∷ ls) → Begins x b t → count (onSurface x) (surfaces (linesOf (told blank bs))) ≡ 0
 
--- the calls that throw away: an accepted begin (2) that says no output of prior pictures, discard (6), abandon (8)
+-- the calls that throw away: an accepted begin that says no output of prior pictures, discard, abandon
 unfoldable pub throwsAway : List ℕ → Reply → Bool
 throwsAway r (Reply.Refused kind n) = false
-throwsAway r (Reply.Done kind t) = eqb (kindOf r) 6 || eqb (kindOf r) 8
-throwsAway r (Reply.Started b t) = eqb (kindOf r) 2 && b .noPrior
+throwsAway r (Reply.Done kind t) = eqb (kindOf r) discardKind || eqb (kindOf r) abandonKind
+throwsAway r (Reply.Started b t) = eqb (kindOf r) beginKind && b .noPrior
 throwsAway r (Reply.Listed l0 l1) = false
 
 -- thrown away by a named call: where a reply throws something away, its call is one of these

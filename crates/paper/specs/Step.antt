@@ -9,6 +9,7 @@ use Rattle.paper.specs.declared.Limits.{Limits}
 use Rattle.paper.specs.declared.Current.{Current}
 use Rattle.paper.specs.Words.{Test, _gives_, first, anyB}
 use Rattle.paper.specs.Numbers.{aSerial, missing, sameSurface, replyLimit}
+use Rattle.paper.specs.Kinds.{configureKind, beginKind, listsKind, finishKind, drainKind, discardKind, endKind, abandonKind, replyTo, malformedReply}
 use Rattle.paper.specs.State.{Session, isCurrent, onNow, modulus}
 use Rattle.paper.specs.Records.{Fields, Slice, kindOf, limitsOf, fieldsOf, sliceOf, wellFormed}
 use Rattle.paper.specs.Ranges.{configureRanges, beginRanges, listsRanges}
@@ -34,7 +35,7 @@ accepted s kind t = record { number = 0; reply = Reply.Done kind t; next = s }
 
 -- refused with the number, unless that is 0
 abbrev pub unless : Session → ℕ → ℕ → Decided → Decided
-unless s kind number d = cond (eqb number 0) d (refused s (256 + kind) number)
+unless s kind number d = cond (eqb number 0) d (refused s (replyTo kind) number)
 
 -- "in configure 2, 9"
 unfoldable pub configureRefusal : Session → Limits → ℕ
@@ -44,7 +45,7 @@ configureRefusal s l =
     ∷ [])
 
 unfoldable pub configureOf : Session → Limits → Decided
-configureOf s l = unless s 1 (configureRefusal s l) (accepted (configuredSession s l) 1 (drainedNow s .tail))
+configureOf s l = unless s configureKind (configureRefusal s l) (accepted (configuredSession s l) configureKind (drainedNow s .tail))
 
 -- "begin 1, 3, 5, 8, 7, 6"; number 7: "the surface is held by a stored picture at the time of the call"
 abbrev pub heldBy : Surface → Picture → Bool
@@ -66,7 +67,7 @@ begunOf s f =
 
 unfoldable pub beginOf : Session → Fields → Decided
 beginOf s f =
-    unless s 2 (beginRefusal s f) (record { number = 0; reply = Reply.Started (begunOf s f) (roomMade s f .tail); next = begunSession s f })
+    unless s beginKind (beginRefusal s f) (record { number = 0; reply = Reply.Started (begunOf s f) (roomMade s f .tail); next = begunSession s f })
 
 -- "lists 4, 5, 10, 11 for list 0 then 1, 12 likewise"
 unfoldable pub listsRefusal : Session → Current → Slice → ℕ
@@ -81,47 +82,47 @@ listsRefusal s c f =
 
 abbrev pub listsAt : Session → Slice → Current → Decided
 listsAt s f c =
-    unless s 3 (listsRefusal s c f) (record { number = 0; reply = Reply.Listed (list0 (s .refs) (c .serial) f) (list1 (s .refs) (c .serial) f); next = s })
+    unless s listsKind (listsRefusal s c f) (record { number = 0; reply = Reply.Listed (list0 (s .refs) (c .serial) f) (list1 (s .refs) (c .serial) f); next = s })
 
 unfoldable pub listsOf : Session → Slice → Decided
-listsOf s f = onNow (s .current) (refused s 259 4) (listsAt s f)
+listsOf s f = onNow (s .current) (refused s (replyTo listsKind) 4) (listsAt s f)
 
 -- "finish 4, 9"
 abbrev pub finishAt : Session → Current → Decided
-finishAt s c = unless s 4 (first (full s gives 9 ∷ [])) (accepted (finishedSession s c) 4 (finished (s .limits) (s .store) c .tail))
+finishAt s c = unless s finishKind (first (full s gives 9 ∷ [])) (accepted (finishedSession s c) finishKind (finished (s .limits) (s .store) c .tail))
 
 unfoldable pub finishOf : Session → Decided
-finishOf s = onNow (s .current) (refused s 260 4) (finishAt s)
+finishOf s = onNow (s .current) (refused s (replyTo finishKind) 4) (finishAt s)
 
 -- "drain 9"
 unfoldable pub drainOf : Session → Decided
-drainOf s = unless s 5 (first ((isCurrent (s .current) && full s) gives 9 ∷ [])) (accepted (drainedSession s) 5 (drainedNow s .tail))
+drainOf s = unless s drainKind (first ((isCurrent (s .current) && full s) gives 9 ∷ [])) (accepted (drainedSession s) drainKind (drainedNow s .tail))
 
 unfoldable pub discardOf : Session → Decided
-discardOf s = accepted (discardedSession s) 6 (discarded (s .store) (s .current) .tail)
+discardOf s = accepted (discardedSession s) discardKind (discarded (s .store) (s .current) .tail)
 
 unfoldable pub endOf : Session → Decided
-endOf s = accepted (endedSession s) 7 quiet
+endOf s = accepted (endedSession s) endKind quiet
 
 -- "abandon 4"
 unfoldable pub abandonOf : Session → Decided
-abandonOf s = onNow (s .current) (refused s 264 4) (λ (c : Current). accepted (abandonedSession s) 8 (dropped c))
+abandonOf s = onNow (s .current) (refused s (replyTo abandonKind) 4) (λ (c : Current). accepted (abandonedSession s) abandonKind (dropped c))
 
 -- what a well-formed record does, by its kind
 unfoldable pub byKind : Session → List ℕ → Decided
 byKind s r =
-    cond (eqb (kindOf r) 1) (configureOf s (limitsOf r))
-    (cond (eqb (kindOf r) 2) (beginOf s (fieldsOf r))
-    (cond (eqb (kindOf r) 3) (listsOf s (sliceOf r))
-    (cond (eqb (kindOf r) 4) (finishOf s)
-    (cond (eqb (kindOf r) 5) (drainOf s)
-    (cond (eqb (kindOf r) 6) (discardOf s)
-    (cond (eqb (kindOf r) 7) (endOf s)
+    cond (eqb (kindOf r) configureKind) (configureOf s (limitsOf r))
+    (cond (eqb (kindOf r) beginKind) (beginOf s (fieldsOf r))
+    (cond (eqb (kindOf r) listsKind) (listsOf s (sliceOf r))
+    (cond (eqb (kindOf r) finishKind) (finishOf s)
+    (cond (eqb (kindOf r) drainKind) (drainOf s)
+    (cond (eqb (kindOf r) discardKind) (discardOf s)
+    (cond (eqb (kindOf r) endKind) (endOf s)
     (abandonOf s)))))))
 
 -- number 13: "its reply kind is 511"
 unfoldable pub decideOf : Session → List ℕ → Decided
-decideOf s r = cond (wellFormed r) (byKind s r) (refused s 511 13)
+decideOf s r = cond (wellFormed r) (byKind s r) (refused s malformedReply 13)
 
 -- One call: "14, 13, then ..". "The call answers the refusal number, 0 when accepted, and the reply's length in bytes."
 -- number 14: "reply buffer under 512 bytes; nothing written, the call answers 14 and length 0"

@@ -8,6 +8,7 @@ use Rattle.paper.specs.declared.Serial.{Serial}
 use Rattle.paper.specs.declared.Line.{Line}
 use Rattle.paper.specs.Words.{Test, _gives_, first, allB, anyB}
 use Rattle.paper.specs.Numbers.{u32, capacityLimit}
+use Rattle.paper.specs.Kinds.{finishKind, discardKind, endKind, abandonKind, surfacePlace}
 use Rattle.paper.specs.Sets.{inOrder}
 use Rattle.paper.specs.Output.{Tail}
 use Rattle.paper.specs.Replies.{Begun, Reply}
@@ -38,7 +39,7 @@ abbrev pub startedPart : Ledger → List ℕ → Begun → Tail → ℕ
 startedPart L r b t =
     first (not (none (L .current)) gives 3
     ∷ not (eqb (b .serial .0) (L .begun)) gives 4
-    ∷ anyB (lies (u32 r 9)) (L .held) gives 5
+    ∷ anyB (lies (u32 r surfacePlace)) (L .held) gives 5
     ∷ tailPart (events t) (L .held) told
     ∷ not (clearing b t (uponAll (events t) (L .held))) gives 19
     ∷ not (names (inOrder (b .sets)) (uponAll (events t) (L .held))) gives 12
@@ -56,19 +57,19 @@ endPart t = first (not (none (events t)) gives 14 ∷ [])
 abbrev pub abandonPart : Ledger → Tail → ℕ
 abandonPart L t = first (none (L .current) gives 13 ∷ tailPart (events t) (L .current) told ∷ not (none (uponAll (events t) (L .current))) gives 15 ∷ [])
 
--- finish (4), drain, configure, discard (6). 9: thrown away by a call that throws nothing away; 16: more stored than a store holds
+-- finish, drain, configure, discard. 9: thrown away by a call that throws nothing away; 16: more stored than a store holds
 abbrev pub landedPart : ℕ → Ledger → Tail → ℕ
 landedPart kind L t =
-    first ((eqb kind 4 && none (L .current)) gives 13
-    ∷ (not (eqb kind 6) && not (none (t .thrown))) gives 9
+    first ((eqb kind finishKind && none (L .current)) gives 13
+    ∷ (not (eqb kind discardKind) && not (none (t .thrown))) gives 9
     ∷ tailPart (events t) (L .held ++ L .current) told
-    ∷ (not (eqb kind 4) && not (none (uponAll (events t) (L .held ++ L .current)))) gives 15
+    ∷ (not (eqb kind finishKind) && not (none (uponAll (events t) (L .held ++ L .current)))) gives 15
     ∷ ltb capacityLimit (length (uponAll (events t) (L .held ++ L .current))) gives 16
     ∷ [])
 
 unfoldable pub replyPart : Ledger → List ℕ → Reply → ℕ
 replyPart L r (Reply.Refused kind n) = 0
-replyPart L r (Reply.Done kind t) = cond (eqb kind 7) (endPart t) (cond (eqb kind 8) (abandonPart L t) (landedPart kind L t))
+replyPart L r (Reply.Done kind t) = cond (eqb kind endKind) (endPart t) (cond (eqb kind abandonKind) (abandonPart L t) (landedPart kind L t))
 replyPart L r (Reply.Started b t) = startedPart L r b t
 replyPart L r (Reply.Listed l0 l1) = listedPart L (l0 ++ l1)
 

@@ -5,37 +5,45 @@ use mathlib.Core.Bool.{Bool, cond, not, _&&_, _||_}
 use lib.ListN.{length, drop}
 use lib.Dec.{ltb, leb, eqb}
 use Rattle.paper.specs.Numbers.{u8, u16}
+use Rattle.paper.specs.Records.{lengthOf, kindOf}
+use Rattle.paper.specs.Kinds.{configureKind, beginKind, listsKind, abandonKind, replyTo, malformedReply, bodyPlace, numberPlace, restPlace, countsPlace, membersPlace, fiveCounts, listsPlace, wordWidth, shownWidth}
 
 -- "A tail is: u8 count and (serial u32, surface u32, POC i32) of each picture handed out; u8 count and serials thrown away; u8 count and
--- surfaces released." How many bytes the tail has that begins at a place.
-abbrev pub thrownAt : List ℕ → ℕ → ℕ
-thrownAt r at = at + 1 + 12 * u8 r at
+-- surfaces released." The place behind a count at a place and as many items of a width:
+abbrev pub pastItems : ℕ → List ℕ → ℕ → ℕ
+pastItems width r at = at + 1 + width * u8 r at
 
-abbrev pub releasedAt : List ℕ → ℕ → ℕ
-releasedAt r at = thrownAt r at + 1 + 4 * u8 r (thrownAt r at)
+-- of the tail that begins at a place and names each picture handed out in so many bytes: the places of the second and of the third count, and its end
+abbrev pub thrownAt : ℕ → List ℕ → ℕ → ℕ
+thrownAt width r at = pastItems width r at
 
-abbrev pub tailEnd : List ℕ → ℕ → ℕ
-tailEnd r at = releasedAt r at + 1 + 4 * u8 r (releasedAt r at)
+abbrev pub releasedAt : ℕ → List ℕ → ℕ → ℕ
+releasedAt width r at = pastItems wordWidth r (thrownAt width r at)
 
--- Begin: 20 bytes up to the five counts' end, the members, the tail
+abbrev pub tailEnd : ℕ → List ℕ → ℕ → ℕ
+tailEnd width r at = pastItems wordWidth r (releasedAt width r at)
+
+-- Begin: the members of its five sets
 abbrev pub membersOf : List ℕ → ℕ
-membersOf r = u8 r 15 + u8 r 16 + u8 r 17 + u8 r 18 + u8 r 19
+membersOf r = fiveCounts r countsPlace
 
 -- where the tail of an accepted reply begins, if it has one
 abbrev pub tailPlace : List ℕ → ℕ
-tailPlace r = cond (eqb (u16 r 2) 258) (20 + 4 * membersOf r) 6
+tailPlace r = cond (eqb (kindOf r) (replyTo beginKind)) (membersPlace + wordWidth * membersOf r) restPlace
 
 -- "kinds 1 and 4 to 8 hold the refusal number 0 and a tail. Begin holds 0, POC i32, flags u8, serial u32, five u8 counts, their members as u32
 -- serials, the tail. Lists holds 0, two u8 lengths, the u32 serials." A refusal holds its number alone.
 unfoldable pub replyEnd : List ℕ → ℕ
 replyEnd r =
-    cond (not (eqb (u16 r 4) 0)) 6
-    (cond (eqb (u16 r 2) 259) (8 + 4 * (u8 r 6 + u8 r 7))
-    (tailEnd r (tailPlace r)))
+    cond (not (eqb (u16 r numberPlace) 0)) restPlace
+    (cond (eqb (kindOf r) (replyTo listsKind)) (listsPlace + wordWidth * (u8 r restPlace + u8 r (restPlace + 1)))
+    (tailEnd shownWidth r (tailPlace r)))
 
--- "kind 256 + record kind", or 511 for number 13, which is always a refusal
+-- "kind 256 + record kind", or that of number 13, which is always a refusal
 abbrev pub replyKind : List ℕ → Bool
-replyKind r = (leb 257 (u16 r 2) && leb (u16 r 2) 264) || (eqb (u16 r 2) 511 && not (eqb (u16 r 4) 0))
+replyKind r =
+    (leb (replyTo configureKind) (kindOf r) && leb (kindOf r) (replyTo abandonKind))
+    || (eqb (kindOf r) malformedReply && not (eqb (u16 r numberPlace) 0))
 
 unfoldable pub wholeReply : List ℕ → Bool
-wholeReply r = leb 6 (length r) && (eqb (length r) (4 + u16 r 0) && (replyKind r && eqb (length r) (replyEnd r)))
+wholeReply r = leb restPlace (length r) && (eqb (length r) (bodyPlace + lengthOf r) && (replyKind r && eqb (length r) (replyEnd r)))

@@ -22,9 +22,9 @@ use Rattle.paper.proofs.Rooms.{any-room}
 use Rattle.paper.proofs.Refusals.{head-says}
 use Rattle.paper.proofs.Demand.{demand}
 use Rattle.paper.proofs.Unbroken.{watched-fresh}
-use Rattle.framing.specs.Cut.{Parts, sizeOf, joined, isWhole, cut, restOf}
-use Rattle.framing.specs.Turns.{through}
-use Rattle.framing.proofs.Cutting.{parts-none, front-cut, one-cut, all-append, all-parts, all-joined}
+use Rattle.format.specs.Cut.{Parts, sizeOf, joined, isWhole, cut, restOf}
+use Rattle.stream.specs.Turns.{through}
+use Rattle.format.proofs.Cutting.{parts-none, front-cut, one-cut, all-append, all-parts, all-joined}
 use Rattle.session.proofs.Bridge.{lent-bytes}
 use Rattle.replay.specs.Turns.{Stand, waiting, readIn, Replays, KeptRun}
 use Rattle.replay.proofs.Answering.{after-append}

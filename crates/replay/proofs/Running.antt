@@ -1,7 +1,7 @@
 -- Turn after turn: all that was read so far is whole records, answered, and what waits; where the run ends because no more is read, no whole record waits.
 use Prim.Native.Nat.{ℕ}
 use mathlib.Core.Path.{_≡_, refl, sym, ap, ap₂, _∙_}
-use mathlib.Core.List.{List, [], _∷_, _++_, append-nil}
+use mathlib.Core.List.{List, [], _∷_, _++_}
 use mathlib.Core.Bool.{true, false, not}
 use native.Mathlib.Omega.{arith}
 use lib.Dec.{eqb}
@@ -13,12 +13,12 @@ use Rattle.paper.specs.State as P
 use Rattle.paper.specs.Step.{replies, sessionAfter}
 use Rattle.paper.proofs.Bools.{split, not-both}
 use Rattle.session.specs.View.{Memory, sessionIn}
-use Rattle.framing.specs.Cut.{Parts, sizeOf, joined, isWhole}
-use Rattle.framing.specs.Turns.{brought, Ran, through}
-use Rattle.framing.proofs.Cutting.{one-cut, joined-append, all-append}
-use Rattle.framing.proofs.Keeping.{none-brought, read-so-far}
-use Rattle.framing.proofs.Laying.{put-front}
-use Rattle.framing.proofs.Running.{Reached}
+use Rattle.format.specs.Cut.{Parts, sizeOf, joined, isWhole}
+use Rattle.stream.specs.Turns.{Ran, through}
+use Rattle.format.proofs.Cutting.{one-cut, joined-on, joined-append, all-append}
+use Rattle.stream.proofs.Keeping.{unmoved}
+use Rattle.stream.proofs.Laying.{put-front}
+use Rattle.stream.proofs.Running.{Reached, by-turns}
 use Rattle.replay.specs.declared.After.{After}
 use Rattle.replay.proofs.Answering.{replies-append, after-append}
 use Rattle.replay.specs.Turns.{Turned, Stand, waiting, readIn, writtenIn, Starts, Turns, Replays}
@@ -32,30 +32,25 @@ record SoFar (R W : List ℕ) (s : Stand) : Type 0 where
   replied : W ≡ joined (replies fresh said)
   session : sessionIn (s .memory) ≡ sessionAfter fresh said
 
-nothing-said : {s : Stand} → Starts s → SoFar [] [] s
+nothing-said : (s : Stand) → Starts s → SoFar [] [] s
 unfolding joined replies sessionAfter allB
-nothing-said {s} b = record { said = []; whole = refl; kept = sym (ap (λ (n : ℕ). take n (s .input)) (b .1)); replied = refl; session = b .0 }
+nothing-said s b = record { said = []; whole = refl; kept = sym (ap (λ (n : ℕ). take n (s .input)) (b .1)); replied = refl; session = b .0 }
 
-said-on : {R W : List ℕ} {b s : Stand} → SoFar R W b → Turns b s → SoFar (R ++ readIn b s) (W ++ writtenIn b s) s
-said-on {R} {W} {b} {s} g n =
+said-on : (R W : List ℕ) (b s : Stand) → SoFar R W b → Turns b s → SoFar (R ++ readIn b s) (W ++ writtenIn b s) s
+said-on R W b s g n =
     let t = n .1 in
     let rs = g .said in
     let qs = t .said in
     record {
       said = rs ++ qs;
       whole = all-append isWhole rs qs (g .whole) (t .whole);
-      kept = read-so-far (joined rs) (waiting b) (readIn b s) (joined qs) (waiting s) (g .kept) (t .kept) ∙ ap (λ (l : List ℕ). l ++ waiting s) (sym (joined-append rs qs));
+      kept = joined-on rs qs (waiting b) (readIn b s) (waiting s) (g .kept) (t .kept);
       replied =
           ap₂ (λ (x y : List ℕ). x ++ y) (g .replied) (put-front (t .replied) ∙ ap (λ (v : P.Session). joined (replies v qs)) (g .session))
           ∙ sym (joined-append (replies fresh rs) (replies (sessionAfter fresh rs) qs))
           ∙ ap joined (sym (replies-append fresh rs qs));
       session = t .later ∙ ap (λ (v : P.Session). sessionAfter v qs) (g .session) ∙ sym (after-append fresh rs qs);
     }
-
-so-far : (turns : List Stand) (s : Stand) → Ran Starts Turns turns s → SoFar (through readIn turns s) (through writtenIn turns s) s
-unfolding Ran through
-so-far [] s g = nothing-said g
-so-far (b ∷ earlier) s g = said-on (so-far earlier b (g .0)) (g .1)
 
 -- ---- the end
 
@@ -68,18 +63,11 @@ turn-ends {held = held} {before = before} {after = after} {r = r} t m u =
     let z = eqb-true (sizeOf (take held before)) 0 e in
     let k = t .reads z in
     let n = ltb-false held (r .held) (sym (k .1) ∙ m) in
-    ap sizeOf (same (k .0) (none-brought held (r .held) after (omega arith))) ∙ z)
+    ap sizeOf (unmoved held (r .held) before after (omega arith) (t .kept ∙ ap (λ (l : List (List ℕ)). joined l ++ take (r .held) after) (k .0))) ∙ z)
     (λ e.
     let z = eqb-false (sizeOf (take held before)) 0 e in
     let k = t .answers (omega arith) in
     not-both (r .more) (k .2 ∙ ap not u) m)
-  where
-    same : t .said ≡ [] → brought held (r .held) after ≡ [] → take (r .held) after ≡ take held before
-    same a b =
-        sym (ap (λ (l : List (List ℕ)). joined l ++ take (r .held) after) a)
-        ∙ sym (t .kept)
-        ∙ ap (λ (l : List ℕ). take held before ++ l) b
-        ∙ append-nil (take held before)
 
 none-waits : (turns : List Stand) (s : Stand) → Ran Starts Turns turns s → s .after .more ≡ false → s .after .unwritten ≡ false → sizeOf (waiting s) ≡ 0
 unfolding Ran
@@ -91,7 +79,7 @@ pub replays : (s : Stand) → Reached Starts Turns s → Replays s
 replays s r =
     let turns = r .turns in
     let g = r .ran in
-    let f = so-far turns s g in
+    let f = by-turns readIn writtenIn SoFar nothing-said said-on turns s g in
     record {
       turns = turns;
       R = through readIn turns s;

@@ -5,8 +5,8 @@ use mathlib.Core.List.{List}
 use mathlib.Core.Bool.{true}
 use lib.ListN.{length, take}
 use Rattle.paper.specs.Words.{allB}
-use Rattle.framing.specs.Cut.{joined, isWhole}
-use Rattle.framing.specs.Laid.{laidAt, Puts}
+use Rattle.format.specs.Cut.{joined, isWhole}
+use Rattle.stream.specs.Laid.{laidAt, Puts}
 use Rattle.paper.specs.Step.{stepOf, replies, sessionAfter}
 use Rattle.session.specs.declared.Answer.{Answer}
 use Rattle.session.specs.View.{Memory, sessionIn}

@@ -1,5 +1,5 @@
 -- What a turn of the program does, and what its whole run does: "reads records from standard input and writes the replies".
-use Prim.Native.Nat.{ℕ, _≤_, _<_}
+use Prim.Native.Nat.{ℕ, _<_}
 use mathlib.Core.Path.{_≡_}
 use mathlib.Core.List.{List, [], _++_}
 use mathlib.Core.Bool.{true, false, not}
@@ -11,21 +11,16 @@ use Rattle.paper.specs.Step.{replies, sessionAfter}
 use Rattle.paper.specs.Ledger.{blank, told}
 use Rattle.paper.specs.Statement.{Kept, ledgerOf}
 use Rattle.paper.specs.Watch.{pairs}
-use Rattle.framing.specs.Cut.{sizeOf, joined, isWhole, cut, restOf}
-use Rattle.framing.specs.Laid.{Puts}
-use Rattle.framing.specs.Turns.{brought, Ran, through}
+use Rattle.format.specs.Cut.{sizeOf, joined, isWhole, cut, restOf}
+use Rattle.stream.specs.declared.Read.{Read}
+use Rattle.stream.specs.Laid.{Puts}
+use Rattle.stream.specs.Turns.{brought, Ran, through}
 use Rattle.session.specs.View.{Memory, sessionIn}
 use Rattle.replay.specs.declared.After.{After}
 
--- One read: what waits is kept, in front of what was read; the run goes on just where something was, and nothing was where the read failed
-pub record Fed (held : ℕ) (before : List ℕ) (r : After) (after : List ℕ) : Type 0 where
-  pub within : r .held ≤ length after
-  pub grows : held ≤ r .held
-  pub kept : take held after ≡ take held before
-  pub none-made : r .made ≡ 0
-  pub goes-on : r .more ≡ ltb held (r .held)
-  pub failed : r .unread ≡ true → r .more ≡ false
-  pub unwritten : r .unwritten ≡ false
+-- what a turn gives that only read: the run goes on just where something was read
+abbrev pub fedBy : ℕ → Read → After
+fedBy held r = record { held = r .held; made = 0; more = ltb held (r .held); unread = r .failed; unwritten = false }
 
 -- One turn. `said` are the records that it answers. The first `made` bytes of the output, which it hands to `write_all`, are the replies, and behind them the
 -- output is as it was
@@ -41,6 +36,8 @@ pub record Turned (m : Memory) (held : ℕ) (before written : List ℕ) (m′ : 
   -- it reads on only where no whole record waits, so that none is left behind unanswered; the run goes on just where something was read, which a read that
   -- fails never does
   pub reads : sizeOf (take held before) ≡ 0 → (said ≡ []) × (r .more ≡ ltb held (r .held)) × (r .unwritten ≡ false) × (r .unread ≡ true → r .more ≡ false)
+  -- behind a record that is not whole there is room, so no read fails for want of it
+  pub room : sizeOf (take held before) ≡ 0 → held < length before
 
 -- where a run stands after a turn: the session's memory, what the turn gave, and the two buffers
 pub record Stand : Type 0 where

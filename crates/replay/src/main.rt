@@ -1,15 +1,17 @@
-// Layer 4, the program: "reads records from standard input and writes the replies". A record is answered when all of it is there. So the session itself
-// answers 13 to a body over 512 bytes, and a last record that is incomplete gets no reply.
+// Layer 4, the program: "reads records from standard input and writes the replies". A record is answered when all of it
+// is there. So the session itself answers 13 to a body over 512 bytes, and a last record that is incomplete gets no
+// reply.
 use session::Answer;
 use session::HEAD;
 use store::Store;
+use stream::Read;
 ghost use mathlib.Core.Path.{_≡_};
 ghost use Prim.Native.Nat.{_+_, _-_, _≤_, _<_};
 ghost use lib.ListN.{length, drop};
-ghost use Rattle.framing.specs.Cut.{sizeOf};
+ghost use Rattle.format.specs.Cut.{sizeOf};
 ghost use Rattle.session.specs.View.{memory};
 ghost use Rattle.replay.specs.Answers.{Added, Answers};
-ghost use Rattle.replay.specs.Turns.{Fed, Turned, standing, Replays};
+ghost use Rattle.replay.specs.Turns.{fedBy, Turned, standing, Replays};
 
 // A record has at most 65,539 bytes, so there is always room to read on behind one that is not whole yet.
 const INPUT: usize = 131072;
@@ -23,8 +25,8 @@ struct Answered {
     made: usize,
 }
 
-// How many bytes wait at the start of the input buffer, how many bytes of replies were handed over to be written, whether the run goes on, and whether
-// standard input could not be read or standard output not be written.
+// How many bytes wait at the start of the input buffer, how many bytes of replies were handed over to be written,
+// whether the run goes on, and whether standard input could not be read or standard output not be written.
 struct After {
     held: usize,
     made: usize,
@@ -43,7 +45,9 @@ fn reply_to(
     made: usize,
 ) -> Answer
     requires { ⌜ made + 512 ≤ length (now replies) ⌝ }
-    ensures { λ r. ⌜ Added (memory (now (head .entry)) (now (sets .entry)) (now (places .entry))) (now (msg .entry)) made (now (replies .entry)) r (memory (now (head .exit)) (now (sets .exit)) (now (places .exit))) (now (replies .exit)) ⌝ }
+    ensures { λ r. ⌜ Added (memory (now (head .entry)) (now (sets .entry)) (now (places .entry)))
+        (now (msg .entry)) made (now (replies .entry)) r
+        (memory (now (head .exit)) (now (sets .exit)) (now (places .exit))) (now (replies .exit)) ⌝ }
 {
     session::step(head, sets, places, msg, &mut replies[made..])
 }
@@ -57,13 +61,16 @@ fn answer(
     replies: &mut [u8],
 ) -> Answered
     ensures within { λ r. ⌜ (r .taken ≤ length (now (bytes .entry))) × (r .made ≤ length (now (replies .exit))) ⌝ }
-    ensures answers { λ r. ⌜ Answers (memory (now (head .entry)) (now (sets .entry)) (now (places .entry))) (now (bytes .entry)) (memory (now (head .exit)) (now (sets .exit)) (now (places .exit))) (r .taken) (r .made) (now (replies .entry)) (now (replies .exit)) ⌝ }
-    ensures all { λ r. ⌜ (r .made + 512 ≤ length (now (replies .exit)) → sizeOf (drop (r .taken) (now (bytes .entry))) ≡ 0) ⌝ }
+    ensures answers { λ r. ⌜ Answers (memory (now (head .entry)) (now (sets .entry)) (now (places .entry)))
+        (now (bytes .entry)) (memory (now (head .exit)) (now (sets .exit)) (now (places .exit))) (r .taken) (r .made)
+        (now (replies .entry)) (now (replies .exit)) ⌝ }
+    ensures all { λ r. ⌜ (r .made + 512 ≤ length (now (replies .exit))
+        → sizeOf (drop (r .taken) (now (bytes .entry))) ≡ 0) ⌝ }
 {
     let mut taken = 0;
     let mut made = 0;
     while made + Store::REPLY <= replies.len() {
-        let n = framing::size(&bytes[taken..]);
+        let n = format::size(&bytes[taken..]);
         if n == 0 {
             return Answered { taken, made };
         }
@@ -75,20 +82,16 @@ fn answer(
     Answered { taken, made }
 }
 
-// One read behind the `held` bytes that wait, with room for one byte at least: none is read at the end of the input, or where it can't be read, and either
-// ends the run.
-fn read_on(held: usize, input: &mut [u8]) -> After
-    requires { ⌜ held < length (now input) ⌝ }
-    ensures { λ r. ⌜ Fed held (now (input .entry)) r (now (input .exit)) ⌝ }
+// What a turn gives that only read: the run goes on where something was read.
+fn fed(held: usize, r: Read) -> After
+    ensures { λ a. ⌜ a ≡ fedBy held r ⌝ }
 {
-    let rest = &mut input[held..];
-    let got = libc::read(0, rest);
-    let n = io::count(got, rest);
+    let now = r.held;
     After {
-        held: held + n,
+        held: now,
         made: 0,
-        more: n > 0,
-        unread: got < 0,
+        more: held < now,
+        unread: r.failed,
         unwritten: false,
     }
 }
@@ -105,16 +108,19 @@ fn turn(
     requires { ⌜ held ≤ length (now input) ⌝ }
     requires { ⌜ (65539 ≤ length (now input)) × (512 ≤ length (now output)) ⌝ }
     ensures { λ r. ⌜ r .held ≤ length (now (input .exit)) ⌝ }
-    ensures turned { λ r. ⌜ Turned (memory (now (head .entry)) (now (sets .entry)) (now (places .entry))) held (now (input .entry)) (now (output .entry)) (memory (now (head .exit)) (now (sets .exit)) (now (places .exit))) r (now (input .exit)) (now (output .exit)) ⌝ }
+    ensures turned { λ r. ⌜ Turned (memory (now (head .entry)) (now (sets .entry)) (now (places .entry))) held
+        (now (input .entry)) (now (output .entry)) (memory (now (head .exit)) (now (sets .exit)) (now (places .exit))) r
+        (now (input .exit)) (now (output .exit)) ⌝ }
 {
     let a = answer(head, sets, places, &input[..held], output);
     let taken = a.taken;
     if taken == 0 {
-        return read_on(held, input);
+        let r = stream::read_on(0, held, input);
+        return fed(held, r);
     }
     let made = a.made;
     let more = io::write_all(1, &output[..made]);
-    framing::shift(input, taken, held);
+    stream::shift(input, taken, held);
     After {
         held: held - taken,
         made,
@@ -133,7 +139,9 @@ fn run(
     output: &mut [u8],
 ) -> After
     requires { ⌜ (65539 ≤ length (now input)) × (512 ≤ length (now output)) ⌝ }
-    ensures { λ r. ⌜ Replays (standing (memory (now (head .exit)) (now (sets .exit)) (now (places .exit))) r (now (input .exit)) (now (output .exit))) ⌝ }
+    ensures { λ r. ⌜ Replays
+        (standing (memory (now (head .exit)) (now (sets .exit)) (now (places .exit))) r (now (input .exit))
+        (now (output .exit))) ⌝ }
 {
     session::fresh(head, sets, places);
     let mut t = After {

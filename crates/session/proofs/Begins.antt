@@ -20,6 +20,7 @@ use Rattle.paper.specs.declared.Current.{Current}
 use Rattle.paper.specs.declared.Now.the-variants as Now
 use Rattle.paper.specs.Words.{table}
 use Rattle.paper.specs.Numbers.{serialNos, aSerial, flagAt}
+use Rattle.paper.specs.Kinds.{beginKind, replyTo}
 use Rattle.paper.specs.Flags.{validPrev}
 use Rattle.paper.specs.State.{Session, modulus, allRefs}
 use Rattle.paper.specs.Records.{Fields, fieldsOf}
@@ -34,9 +35,9 @@ use Rattle.paper.proofs.Bools.{left, right}
 use Rattle.paper.proofs.Ways.{begun}
 use Rattle.paper.proofs.Fits.{few-entries, table-length}
 use Rattle.wire.specs.Bytes.{over}
-use Rattle.derivation.specs.declared.order.Poc.{Poc}
-use Rattle.derivation.specs.declared.order.Poc.the-variants as A
-use Rattle.derivation.specs.declared.rows.Refs.{Refs}
+use Rattle.derivation.specs.declared.poc.Poc.{Poc}
+use Rattle.derivation.specs.declared.poc.Poc.the-variants as A
+use Rattle.derivation.specs.declared.ref_lists.Refs.{Refs}
 use Rattle.derivation.specs.Answers.{pocAnswer}
 use Rattle.derivation.specs.Pad.{Padded, used}
 use Rattle.derivation.specs.Lists.{blankSerial, serialsIn, memberAt, membersOf, refsIn}
@@ -47,15 +48,16 @@ use Rattle.session.specs.declared.Answer.{Answer}
 use Rattle.store.specs.declared.Sizes.{Sizes}
 use Rattle.store.specs.declared.Derived.{Derived}
 use Rattle.store.specs.declared.Moved as Store
-use Rattle.session.specs.declared.reading.Head.{Head}
-use Rattle.session.specs.declared.starting.Flags.{Flags}
-use Rattle.session.specs.declared.starting.Start.{Start}
-use Rattle.session.specs.declared.writing.Told.{Told}
+use Rattle.session.specs.declared.records.Head.{Head}
+use Rattle.session.specs.declared.begin.Flags.{Flags}
+use Rattle.session.specs.declared.begin.Start.{Start}
+use Rattle.session.specs.declared.replies.Told.{Told}
 use Rattle.store.specs.Shelf.{word, stored}
 use Rattle.store.specs.Places.{front, storedIn}
 use Rattle.store.specs.Tails.{tailIn}
 use Rattle.store.specs.Bumps.{Leaves}
 use Rattle.store.specs.Runs.{wishesIn, wishesWithin, HoldsSets, Derives}
+use Rattle.session.specs.HeadPlaces.{ENDED, NEXT}
 use Rattle.session.specs.Laid.{sizesOf, frontOf, headWords}
 use Rattle.session.specs.Laid as Laid
 use Rattle.session.specs.View.{Memory, memory, sessionIn, sessionOf, Front, frontIn, limitsAt, flagOf, begunFront}
@@ -64,7 +66,7 @@ use Rattle.session.specs.Parts.{headOf, HoldsWishes}
 use Rattle.session.specs.Written.{FewMembers, numbersFrom, memberBytes, begunPart, toldBytes}
 use Rattle.session.specs.Starts.{flagsFrom, prevFrom, currentFrom, toldFrom, refsFrom, Passed, Placed, Wished, Tells}
 use Rattle.store.proofs.Shelf.{table-same, table-map, table-join}
-use Rattle.store.proofs.Marks.{within-room}
+use Rattle.store.proofs.MarkLaws.{within-room}
 use Rattle.session.proofs.Bytes.{take-table, words-join}
 use Rattle.session.proofs.Entries.{entries-are}
 use Rattle.session.proofs.Ways.{begin-6, begin-0}
@@ -73,11 +75,11 @@ use Rattle.session.proofs.Saying.{as-decided, tail-held}
 
 -- ---- number 6 and acceptance, behind the other tests
 
-module _ (s : Session) (r : List ℕ) (p : Passed s r) where
+module _ (s : Session) (r : List ℕ) {l : Limits} {h : Head} (p : Passed s r l h) where
   abbrev f : Fields
   f = fieldsOf r
 
-  pub outside : within s f ≡ false → beginOf s f ≡ refused s 258 6
+  pub outside : within s f ≡ false → beginOf s f ≡ refused s (replyTo beginKind) 6
   outside e = begin-6 s f (rw (p .configured)) (p .idle) (rw (p .ranges)) (p .roomy) (p .free) e
 
   pub inside : within s f ≡ true → beginOf s f ≡ begun s f
@@ -117,8 +119,8 @@ module _ (r : List ℕ) where
   few-head : (M : ℕ) → beginRanges M (fieldsOf r) ≡ true → headOf r .neg + headOf r .pos + headOf r .lt ≤ 16
   few-head M e = omega (arith, entries-are r, few-entries M (fieldsOf r) e)
 
-pub few-of : {s : Session} {r : List ℕ} {h : Head} {t : Start} → Placed s r h t → h .neg + h .pos + h .lt ≤ 16
-few-of {s} {r} p = subst (λ (x : Head). x .neg + x .pos + x .lt ≤ 16) (sym (p .head)) (few-head r (modulus (s .limits)) (p .passed .ranges))
+pub few-of : {s : Session} {r : List ℕ} {l : Limits} {h : Head} {t : Start} → Placed s r l h t → h .neg + h .pos + h .lt ≤ 16
+few-of {s} {r} p = subst (λ (x : Head). x .neg + x .pos + x .lt ≤ 16) (sym (p .passed .head)) (few-head r (modulus (s .limits)) (p .passed .ranges))
 
 -- ---- the reply: the members of the sets in the paper's order
 
@@ -169,10 +171,10 @@ record FlagsAre (s : Session) (r : List ℕ) (t : Start) : Type 0 where
   prior : t .flags .prior ≡ noPrior s (fieldsOf r)
   over : t .flags .over ≡ startsOver s (fieldsOf r)
 
-flags-are : (s : Session) (r : List ℕ) (h : Head) (t : Start) → Placed s r h t → FlagsAre s r t
+flags-are : (s : Session) (r : List ℕ) {l : Limits} (h : Head) (t : Start) → Placed s r l h t → FlagsAre s r t
 unfolding noRasl outputFlag noPrior fieldsOf
 flags-are s r h t p =
-    let e : t .flags ≡ flagsFrom (s .atStart) (s .ended) (headOf r) = p .flags ∙ ap (flagsFrom (s .atStart) (s .ended)) (p .head) in
+    let e : t .flags ≡ flagsFrom (s .atStart) (s .ended) (headOf r) = p .flags ∙ ap (flagsFrom (s .atStart) (s .ended)) (p .passed .head) in
     record {
       rasl = ap (λ (x : Flags). x .rasl) e;
       output = ap (λ (x : Flags). x .output) e;
@@ -181,7 +183,7 @@ flags-are s r h t p =
       over = ap (λ (x : Flags). x .over) e;
     }
 
-module _ (s : Session) (r : List ℕ) (h : Head) (t : Start) (ps : List ℤ) (hs : List ℕ) (q : Wished s r h t ps hs) where
+module _ (s : Session) (r : List ℕ) {l : Limits} (h : Head) (t : Start) (ps : List ℤ) (hs : List ℕ) (q : Wished s r l h t ps hs) where
   abbrev M : ℕ
   M = modulus (s .limits)
 
@@ -215,7 +217,7 @@ module _ (s : Session) (r : List ℕ) (h : Head) (t : Start) (ps : List ℤ) (hs
   unfolding begunCurrent fieldsOf
   current-is =
       let k = q .placed in
-      ap (λ (x : Head). currentFrom (s .next) x t) (k .head)
+      ap (λ (x : Head). currentFrom (s .next) x t) (k .passed .head)
       ∙ (λ i. record { serial = aSerial (s .next); surface = headOf r .surface; poc = k .poc i; lsb = headOf r .lsb; msb = k .msb i; output = same-flags .output i; valid = same-flags .valid i })
 
   told-is : toldBytes (toldFrom (s .next) t) ≡ toldBytes (record { poc = poc s g; flags = flagsByte (begunOf s g); serial = aSerial (s .next) })
@@ -233,23 +235,23 @@ module _ (s : Session) (r : List ℕ) (h : Head) (t : Start) (ps : List ℤ) (hs
 -- ---- step 5 and the reply
 
 pub tells : (h : List ℕ) (us vs : List Serial) (ps : List Picture) (p : List ℕ) (t : Start) (x : Sizes) {l : Limits} {b : Bool} {y : Told} {p′ : List ℕ} {c : Store.Moved} {before : List ℕ} {a : Answer} {after : List ℕ}
-    → l ≡ limitsAt h → b ≡ flagOf (word h 2) → y ≡ toldFrom (word h 3) t → Leaves (beforeDecoding (t .flags .over && not b) (t .flags .prior) l ps) p p′ c
-    → Says (framed 258 0 (begunPart y x us vs ++ tailBytes (tailIn c))) before a after → Tells h us vs ps p t x before a p′ after
+    → l ≡ limitsAt h → b ≡ flagOf (word h ENDED) → y ≡ toldFrom (word h NEXT) t → Leaves (beforeDecoding (t .flags .over && not b) (t .flags .prior) l ps) p p′ c
+    → Says (framed (replyTo beginKind) 0 (begunPart y x us vs ++ tailBytes (tailIn c))) before a after → Tells h us vs ps p t x before a p′ after
 tells h us vs ps p t x {l} {b} {y} {p′} {c} {before} {a} {after} el eb ey k w =
-    let m : beforeDecoding (t .flags .over && not b) (t .flags .prior) l ps ≡ beforeDecoding (t .flags .over && not (flagOf (word h 2))) (t .flags .prior) (limitsAt h) ps =
+    let m : beforeDecoding (t .flags .over && not b) (t .flags .prior) l ps ≡ beforeDecoding (t .flags .over && not (flagOf (word h ENDED))) (t .flags .prior) (limitsAt h) ps =
     λ i. beforeDecoding (t .flags .over && not (eb i)) (t .flags .prior) (el i) ps
     in
-    let e : tailIn c ≡ beforeDecoding (t .flags .over && not (flagOf (word h 2))) (t .flags .prior) (limitsAt h) ps .tail = tail-held (k .tail) ∙ ap (λ (z : Moved). z .tail) m in
+    let e : tailIn c ≡ beforeDecoding (t .flags .over && not (flagOf (word h ENDED))) (t .flags .prior) (limitsAt h) ps .tail = tail-held (k .tail) ∙ ap (λ (z : Moved). z .tail) m in
     record {
       pics = k .pics ∙ ap (λ (z : Moved). z .pics) m;
       normal = k .normal;
-      says = subst (λ (z : List ℕ). Says (framed 258 0 z) before a after) (λ i. begunPart (ey i) x us vs ++ tailBytes (e i)) w;
+      says = subst (λ (z : List ℕ). Says (framed (replyTo beginKind) 0 z) before a after) (λ i. begunPart (ey i) x us vs ++ tailBytes (e i)) w;
     }
 
 -- ---- a begin that nothing refuses, from what its parts did: the marks and the sets, then the room and the reply, then the words beside the store
 
-module _ (m : Memory) (r : List ℕ) (h : Head) (t : Start) (ps : List ℤ) (hs : List ℕ) (q : Wished (sessionIn m) r h t ps hs)
-    {l : Limits} (y : Derived) (el : l ≡ limitsAt (m .head)) (d : Derives (modulus l) (unmarkedIf (t .flags .over) (stored (m .places))) (wishesWithin ps hs (h .neg) (h .pos) (h .lt)) y)
+module _ (m : Memory) (r : List ℕ) {l : Limits} (h : Head) (t : Start) (ps : List ℤ) (hs : List ℕ) (q : Wished (sessionIn m) r l h t ps hs)
+    (y : Derived) (d : Derives (modulus l) (unmarkedIf (t .flags .over) (stored (m .places))) (wishesWithin ps hs (h .neg) (h .pos) (h .lt)) y)
     {before : List ℕ} {a : Answer} {p′ after : List ℕ} (w : Tells (m .head) (y .first) (y .second) (storedIn (y .store)) (m .places) t (y .sizes) before a p′ after)
     (xs : List ℕ) (n : length xs ≡ 16) (is : serialsIn xs (y .sizes .before + y .sizes .after + y .sizes .long) ≡ membersOf (y .first) (y .sizes .before + y .sizes .after + y .sizes .long))
     (behind : (i : ℕ) → y .sizes .before + y .sizes .after + y .sizes .long ≤ i → word xs i ≡ word (m .sets) i) where
@@ -263,15 +265,16 @@ module _ (m : Memory) (r : List ℕ) (h : Head) (t : Start) (ps : List ℤ) (hs 
   fs = fieldsOf r
 
   derived : Derives (modulus (limitsAt (m .head))) (unmarkedIf (t .flags .over) (stored (m .places))) (wishesIn ps hs (h .neg) (h .pos) (h .lt)) y
+  unfolding frontIn
   derived =
-      subst (λ (z : Limits). Derives (modulus z) (unmarkedIf (t .flags .over) (stored (m .places))) (wishesIn ps hs (h .neg) (h .pos) (h .lt)) y) el
+      subst (λ (z : Limits). Derives (modulus z) (unmarkedIf (t .flags .over) (stored (m .places))) (wishesIn ps hs (h .neg) (h .pos) (h .lt)) y) (q .placed .passed .limits)
       (subst (λ (z : Wishes). Derives (modulus l) (unmarkedIf (t .flags .over) (stored (m .places))) z y) (within-room ps hs (h .neg) (h .pos) (h .lt) (q .few)) d)
 
   -- the pictures that step 4 marked
   marked-is : storedIn (y .store) ≡ marksOf (modulus (limitsAt (m .head))) (unmarkedIf (t .flags .over) (stored (m .places))) (wishesIn ps hs (h .neg) (h .pos) (h .lt))
   marked-is = let k : min (y .store .len) 16 ≡ y .store .len = omega (arith, d .few) in ap (front (y .store .places)) k ∙ derived .pics
 
-  room-made : beforeDecoding (t .flags .over && not (flagOf (word (m .head) 2))) (t .flags .prior) (limitsAt (m .head)) (storedIn (y .store)) ≡ roomMade s fs
+  room-made : beforeDecoding (t .flags .over && not (flagOf (word (m .head) ENDED))) (t .flags .prior) (limitsAt (m .head)) (storedIn (y .store)) ≡ roomMade s fs
   unfolding frontIn
   room-made = room-is s r h t ps hs q (storedIn (y .store)) marked-is
 
@@ -279,7 +282,7 @@ module _ (m : Memory) (r : List ℕ) (h : Head) (t : Start) (ps : List ℤ) (hs 
   unfolding frontIn
   sets-held = subst (HoldsSets (y .first) (y .second) x) (sets-are s r h t ps hs q) (derived .sets)
 
-  body-is : begunPart (toldFrom (word (m .head) 3) t) x (y .first) (y .second) ++ tailBytes (beforeDecoding (t .flags .over && not (flagOf (word (m .head) 2))) (t .flags .prior) (limitsAt (m .head)) (storedIn (y .store)) .tail)
+  body-is : begunPart (toldFrom (word (m .head) NEXT) t) x (y .first) (y .second) ++ tailBytes (beforeDecoding (t .flags .over && not (flagOf (word (m .head) ENDED))) (t .flags .prior) (limitsAt (m .head)) (storedIn (y .store)) .tail)
       ≡ begunBytes (begunOf s fs) ++ tailBytes (roomMade s fs .tail)
   unfolding frontIn
   body-is = λ i. begun-bytes s r h t ps hs q x sets-held i ++ tailBytes (room-made i .tail)
@@ -288,11 +291,11 @@ module _ (m : Memory) (r : List ℕ) (h : Head) (t : Start) (ps : List ℤ) (hs 
   unfolding bytesOf
   answers-are =
       record {
-        answer = w .says .answer ∙ (λ i. record { number = 0; len = length (framed 258 0 (body-is i)) });
-        bytes = w .says .bytes ∙ (λ i. over (framed 258 0 (body-is i)) before);
+        answer = w .says .answer ∙ (λ i. record { number = 0; len = length (framed (replyTo beginKind) 0 (body-is i)) });
+        bytes = w .says .bytes ∙ (λ i. over (framed (replyTo beginKind) 0 (body-is i)) before);
       }
 
-  next-session : sessionOf (begunFront (frontIn (m .head)) (currentFrom (word (m .head) 3) h t) (refsFrom x) (cond (eqb (word (m .head) 3) 4294967295) 0 (word (m .head) 3 + 1))) xs p′ ≡ begunSession s fs
+  next-session : sessionOf (begunFront (frontIn (m .head)) (currentFrom (word (m .head) NEXT) h t) (refsFrom x) (cond (eqb (word (m .head) NEXT) 4294967295) 0 (word (m .head) NEXT + 1))) xs p′ ≡ begunSession s fs
   unfolding frontIn
   next-session =
       λ i.
@@ -316,8 +319,8 @@ module _ (m : Memory) (r : List ℕ) (h : Head) (t : Start) (ps : List ℤ) (hs 
   members-are-all = let b = sets-held .before in let c = sets-held .after in let l = sets-held .long in simp length-append (omega arith)
 
   pub begun-does : {h′ : List ℕ} {c : Current} {z : Refs} {k : ℕ} → frontIn h′ ≡ begunFront (frontIn (m .head)) c z k
-      → ((f : Front) → m .head ≡ headWords f → h′ ≡ headWords (begunFront f c z k)) → c ≡ currentFrom (word (m .head) 3) h t → z ≡ refsFrom x
-      → k ≡ cond (eqb (word (m .head) 3) 4294967295) 0 (word (m .head) 3 + 1) → Does m (beginOf s fs) before a (memory h′ xs p′) after
+      → ((f : Front) → m .head ≡ headWords f → h′ ≡ headWords (begunFront f c z k)) → c ≡ currentFrom (word (m .head) NEXT) h t → z ≡ refsFrom x
+      → k ≡ cond (eqb (word (m .head) NEXT) 4294967295) 0 (word (m .head) NEXT + 1) → Does m (beginOf s fs) before a (memory h′ xs p′) after
   unfolding frontIn
   begun-does e wh ec ey ek =
       let n = ap (λ (f : Front). sessionOf f xs p′) (e ∙ (λ i. begunFront (frontIn (m .head)) (ec i) (ey i) (ek i))) ∙ next-session in
@@ -341,12 +344,12 @@ pub fits-back : (z : ℤ) → in32 z ≡ true → toZ w32 (ofZ w32 z) ≡ z
 fits-back z e = toZ-ofZ (record { sfits = ltb-true (mag z) (2 ^ 31) e })
 
 -- the wishes that were read are the paper's, or one is outside as the paper's is
-module _ (s : Session) (r : List ℕ) (h : Head) (t : Start) (p : Placed s r h t) {l : Limits} {b : Bool} {ps : List ℤ} {hs : List ℕ} (el : l ≡ s .limits)
+module _ (s : Session) (r : List ℕ) {l : Limits} (h : Head) (t : Start) (p : Placed s r l h t) {b : Bool} {ps : List ℤ} {hs : List ℕ}
     (k : HoldsWishes (wishesOf (modulus l) (toZ w32 (ofZ w32 (t .poc))) (fieldsOf r)) (h .neg) (h .pos) (h .lt) b ps hs) where
   asked-is : HoldsWishes (wishes s (fieldsOf r)) (h .neg) (h .pos) (h .lt) b ps hs
   asked-is =
       let z : toZ w32 (ofZ w32 (t .poc)) ≡ poc s (fieldsOf r) = fits-back (t .poc) (right (in32 (t .msb)) (in32 (t .poc)) (p .inside)) ∙ p .poc in
-      subst (λ (w : Wishes). HoldsWishes w (h .neg) (h .pos) (h .lt) b ps hs) (λ i. wishesOf (modulus (el i)) (z i) (fieldsOf r)) k
+      subst (λ (w : Wishes). HoldsWishes w (h .neg) (h .pos) (h .lt) b ps hs) (λ i. wishesOf (modulus (p .passed .limits i)) (z i) (fieldsOf r)) k
 
   within-is : within s (fieldsOf r) ≡ b
   unfolding within
@@ -357,31 +360,29 @@ module _ (s : Session) (r : List ℕ) (h : Head) (t : Start) (p : Placed s r h t
   pub wishes-outside : not b ≡ true → within s (fieldsOf r) ≡ false
   wishes-outside n = within-is ∙ not-true b n
 
-  pub wished : not b ≡ false → Wished s r h t ps hs
+  pub wished : not b ≡ false → Wished s r l h t ps hs
   wished n = record { placed = p; within = within-is ∙ not-false b n; few = few-of p; wishes = asked-is .items (not-false b n) }
 
 -- what steps 1 and 2 read and computed
-pub record Counted (s : Session) (r : List ℕ) (h : Head) (k : Flags) (x : Poc) : Type 0 where
-  pub head : h ≡ headOf r
+pub record Counted (s : Session) (h : Head) (k : Flags) (x : Poc) : Type 0 where
   pub flags : k ≡ flagsFrom (s .atStart) (s .ended) h
   pub poc : x ≡ pocAnswer (modulus (s .limits)) (prevFrom (k .over) (s .prev)) (h .lsb)
 
 -- the POC that was derived is the paper's, or outside as the paper's is
-module _ {s : Session} {r : List ℕ} {h : Head} {k : Flags} {x : Poc} (o : Counted s r h k x) where
+module _ {s : Session} {r : List ℕ} {l : Limits} {h : Head} {k : Flags} {x : Poc} (w : Passed s r l h) (o : Counted s h k x) where
   answer-is : x ≡ pocAnswer (modulus (s .limits)) (prevNow s r) (headOf r .lsb)
   answer-is =
-      let f : k ≡ flagsNow s r = o .flags ∙ ap (flagsFrom (s .atStart) (s .ended)) (o .head) in
-      o .poc ∙ (λ i. pocAnswer (modulus (s .limits)) (prevFrom (f i .over) (s .prev)) (o .head i .lsb))
+      let f : k ≡ flagsNow s r = o .flags ∙ ap (flagsFrom (s .atStart) (s .ended)) (w .head) in
+      o .poc ∙ (λ i. pocAnswer (modulus (s .limits)) (prevFrom (f i .over) (s .prev)) (w .head i .lsb))
 
   pub no-poc : x ≡ A.Outside → within s (fieldsOf r) ≡ false
   no-poc e = poc-outside s r (sym (λ i. in32 (msb-is s r i) && in32 (poc-is s r i)) ∙ poc-out (modulus (s .limits)) (prevNow s r) (headOf r .lsb) (sym answer-is ∙ e))
 
-  placed-at : (m p : ℤ) → Passed s r → x ≡ A.Val m p → Placed s r h (record { flags = k; msb = m; poc = p })
-  placed-at m p w e =
+  placed-at : (m p : ℤ) → x ≡ A.Val m p → Placed s r l h (record { flags = k; msb = m; poc = p })
+  placed-at m p e =
       let v = poc-val (modulus (s .limits)) (prevNow s r) (headOf r .lsb) m p (sym answer-is ∙ e) in
       record {
         passed = w;
-        head = o .head;
         flags = o .flags;
         msb = v .0 ∙ msb-is s r;
         poc = v .1 ∙ poc-is s r;
@@ -389,8 +390,8 @@ module _ {s : Session} {r : List ℕ} {h : Head} {k : Flags} {x : Poc} (o : Coun
       }
 
   -- as the code passes them on
-  pub placed : (m p : ℤ) → Passed s r → x ≡ A.Val m p → Placed s r h (record { flags = k; msb = toZ w32 (ofZ w32 m); poc = toZ w32 (ofZ w32 p) })
-  placed m p w e =
-      let v = placed-at m p w e in
-      subst (λ (y : ℤ). Placed s r h (record { flags = k; msb = y; poc = toZ w32 (ofZ w32 p) })) (sym (fits-back m (left (in32 m) (in32 p) (v .inside))))
-      (subst (λ (y : ℤ). Placed s r h (record { flags = k; msb = m; poc = y })) (sym (fits-back p (right (in32 m) (in32 p) (v .inside)))) v)
+  pub placed : (m p : ℤ) → x ≡ A.Val m p → Placed s r l h (record { flags = k; msb = toZ w32 (ofZ w32 m); poc = toZ w32 (ofZ w32 p) })
+  placed m p e =
+      let v = placed-at m p e in
+      subst (λ (y : ℤ). Placed s r l h (record { flags = k; msb = y; poc = toZ w32 (ofZ w32 p) })) (sym (fits-back m (left (in32 m) (in32 p) (v .inside))))
+      (subst (λ (y : ℤ). Placed s r l h (record { flags = k; msb = m; poc = y })) (sym (fits-back p (right (in32 m) (in32 p) (v .inside)))) v)

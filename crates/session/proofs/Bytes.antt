@@ -12,10 +12,11 @@ use Rattle.paper.specs.declared.Serial.{Serial}
 use Rattle.paper.specs.declared.Surface.{Surface}
 use Rattle.paper.specs.declared.Shown.{Shown}
 use Rattle.paper.specs.Numbers.{bytes16, bytes32, serialNos, surfaceNos}
+use Rattle.paper.specs.Kinds.{listsKind, replyTo, shownWidth}
 use Rattle.paper.specs.Replies.{shownBytes, words, tailBytes, framed, bytesOf}
 use Rattle.paper.specs.Replies.Reply.{Listed}
 use Rattle.paper.proofs.Fits.{table-length}
-use Rattle.derivation.specs.declared.rows.RefList.{RefList}
+use Rattle.derivation.specs.declared.ref_lists.RefList.{RefList}
 use Rattle.wire.proofs.Laws.{runs, head-last, sets-over}
 use Rattle.wire.proofs.Flat.{flat-append, length-flat}
 use Rattle.derivation.specs.Pad.{Padded, used}
@@ -24,7 +25,7 @@ use Rattle.session.specs.declared.Refusal.{Refusal}
 use Rattle.session.specs.declared.Refusal.the-variants.{Unconfigured, BadLimits, Busy, NoCurrent, OutOfRange, Outside, SurfaceHeld, SerialsSpent, StoreFull, NoCandidate, TooMany, BadEntry, Malformed, NoRoom}
 use Rattle.store.specs.declared.Sizes.{Sizes}
 use Rattle.store.specs.declared.Moved.{Moved}
-use Rattle.session.specs.declared.writing.Told.{Told}
+use Rattle.session.specs.declared.replies.Told.{Told}
 use Rattle.session.specs.Numbered.{numberOf}
 use Rattle.session.specs.Said.{Says, Refuses}
 use Rattle.store.specs.Tails.{tailIn, GoodTail}
@@ -52,7 +53,7 @@ pub length-bytes32 : (n : ℕ) → length (bytes32 n) ≡ 4
 unfolding bytes32
 length-bytes32 n = refl
 
-pub length-shown : (p : Shown) → length (shownBytes p) ≡ 12
+pub length-shown : (p : Shown) → length (shownBytes p) ≡ shownWidth
 unfolding bytes32
 length-shown p = refl
 
@@ -165,7 +166,7 @@ module _ (x : Moved) (g : GoodTail x) where
       let h = g .handed .room in
       let t = g .thrown .room in
       let r = g .released .room in
-      omega (arith, simp length-append at e, held-entries (g .handed) shownBytes 12 length-shown, held-words (g .thrown) (λ (s : Serial). s .0), held-words (g .released) (λ (s : Surface). s .0))
+      omega (arith, simp length-append at e, held-entries (g .handed) shownBytes shownWidth length-shown, held-words (g .thrown) (λ (s : Serial). s .0), held-words (g .released) (λ (s : Surface). s .0))
 
 -- the room of the members of the sets
 pub members-room : (x : Sizes) (us vs : List Serial) → FewMembers x → length (memberBytes x us vs) ≤ 64
@@ -178,7 +179,7 @@ members-room x us vs f =
     simp length-append (omega arith)
 
 -- the serials of two lists, one behind the other
-pub listed : (x y : RefList) → Listable x → Listable y → bytesOf (Listed (listIn x) (listIn y)) ≡ framed 259 0 ((x .len ∷ y .len ∷ words (serialNos (take (x .len) (x .items)))) ++ words (serialNos (take (y .len) (y .items))))
+pub listed : (x y : RefList) → Listable x → Listable y → bytesOf (Listed (listIn x) (listIn y)) ≡ framed (replyTo listsKind) 0 ((x .len ∷ y .len ∷ words (serialNos (take (x .len) (x .items)))) ++ words (serialNos (take (y .len) (y .items))))
 unfolding bytesOf used
 listed x y h k =
     let e = words-join (λ (s : Serial). s .0) (take (x .len) (x .items)) (take (y .len) (y .items)) in

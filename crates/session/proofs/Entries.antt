@@ -19,7 +19,7 @@ use Rattle.paper.proofs.Bools.{left, right, split}
 use Rattle.paper.proofs.Fits.{table-length}
 use Rattle.derivation.specs.Heads.{headRanges}
 use Rattle.derivation.proofs.Splitting.{ranges-split}
-use Rattle.session.specs.declared.reading.Head.{Head}
+use Rattle.session.specs.declared.records.Head.{Head}
 use Rattle.session.specs.Parts.{headOf}
 
 -- ---- tests of a run of entries

@@ -17,8 +17,9 @@ use Rattle.paper.specs.declared.Limits.{Limits}
 use Rattle.paper.specs.declared.Current.{Current}
 use Rattle.paper.specs.declared.Prev.the-variants as Prev
 use Rattle.paper.specs.declared.Now.the-variants as Now
-use Rattle.derivation.specs.declared.rows.Refs.{Refs}
+use Rattle.derivation.specs.declared.ref_lists.Refs.{Refs}
 use Rattle.store.specs.Shelf.{word}
+use Rattle.session.specs.HeadPlaces.{CONFIGURED, FIRST, ENDED, K, PREV, CURRENT}
 use Rattle.session.specs.View.{flagOf, flagWord, currentAt, nowAt, Front, frontIn, idleFront, configuredFront, begunFront, endedFront}
 use Rattle.session.specs.Laid.{headWords}
 use Rattle.store.proofs.Shelf.{flag-back}
@@ -31,20 +32,20 @@ first-words h (suc n) le = rw (first-words h n (omega arith)) (sym (take-suc h n
 
 -- the words with no picture current and no previous Tid0 picture, with this one, with these limits, with this picture current
 abbrev pub idleWords : List ℕ → List ℕ
-idleWords h = sets h 12 (0 ∷ 0 ∷ 0 ∷ 0 ∷ 0 ∷ 0 ∷ 0 ∷ 0 ∷ 0 ∷ 0 ∷ 0 ∷ [])
+idleWords h = sets h CURRENT (0 ∷ 0 ∷ 0 ∷ 0 ∷ 0 ∷ 0 ∷ 0 ∷ 0 ∷ 0 ∷ 0 ∷ 0 ∷ [])
 
 abbrev pub noneWords : List ℕ → List ℕ
-noneWords h = sets (idleWords h) 9 (0 ∷ 0 ∷ 0 ∷ [])
+noneWords h = sets (idleWords h) PREV (0 ∷ 0 ∷ 0 ∷ [])
 
 abbrev pub tid0Words : ℕ → ℤ → List ℕ → List ℕ
-tid0Words lsb msb h = sets (idleWords h) 9 (1 ∷ lsb ∷ ofZ w32 msb ∷ [])
+tid0Words lsb msb h = sets (idleWords h) PREV (1 ∷ lsb ∷ ofZ w32 msb ∷ [])
 
 abbrev pub limitWords : Limits → List ℕ → List ℕ
-limitWords l h = sets (set h 0 1) 4 (l .k ∷ l .capacity ∷ l .buffering ∷ l .reorder ∷ l .latency ∷ [])
+limitWords l h = sets (set h CONFIGURED 1) K (l .k ∷ l .capacity ∷ l .buffering ∷ l .reorder ∷ l .latency ∷ [])
 
 abbrev pub begunWords : Current → Refs → ℕ → List ℕ → List ℕ
 begunWords c x next h =
-    sets (sets h 1 (0 ∷ 0 ∷ next ∷ [])) 12
+    sets (sets h FIRST (0 ∷ 0 ∷ next ∷ [])) CURRENT
     (1 ∷ c .serial .0 ∷ c .surface .0 ∷ ofZ w32 (c .poc) ∷ c .lsb ∷ ofZ w32 (c .msb) ∷ flagWord (c .output) ∷ flagWord (c .valid) ∷ x .before ∷ x .after ∷ x .long ∷ [])
 
 -- what is read after each kind of write
@@ -74,9 +75,9 @@ module _ (h : List ℕ) (long : length h ≡ 23) where
       front-by (begunWords c x next) (λ (f : Front). begunFront f c x next)
       (rw (toZ-ofZ w32 (c .poc) p, mod-eq-of-lt (q .fits), toZ-ofZ w32 (c .msb) m, flag-back (c .output), flag-back (c .valid), mod-eq-of-lt (a .fits), mod-eq-of-lt (b .fits), mod-eq-of-lt (d .fits)))
 
-  pub front-ended : frontIn (set h 2 1) ≡ endedFront (frontIn h)
+  pub front-ended : frontIn (set h ENDED 1) ≡ endedFront (frontIn h)
   unfolding frontIn table
-  front-ended = front-by (λ (l : List ℕ). set l 2 1) endedFront refl
+  front-ended = front-by (λ (l : List ℕ). set l ENDED 1) endedFront refl
 
 -- words that are what some session is written as are so after each kind of write
 module _ (h : List ℕ) (f : Front) (e : h ≡ headWords f) where
@@ -96,13 +97,13 @@ module _ (h : List ℕ) (f : Front) (e : h ≡ headWords f) where
   unfolding headWords
   words-begun c x next = ap (begunWords c x next) e
 
-  pub words-ended : set h 2 1 ≡ headWords (endedFront f)
+  pub words-ended : set h ENDED 1 ≡ headWords (endedFront f)
   unfolding headWords
-  words-ended = ap (λ (l : List ℕ). set l 2 1) e
+  words-ended = ap (λ (l : List ℕ). set l ENDED 1) e
 
 -- a picture is current when its flag is on
-pub is-now : (h : List ℕ) → isCurrent (nowAt h) ≡ flagOf (word h 12)
-is-now h = go (flagOf (word h 12))
+pub is-now : (h : List ℕ) → isCurrent (nowAt h) ≡ flagOf (word h CURRENT)
+is-now h = go (flagOf (word h CURRENT))
   where
     go : (b : Bool) → isCurrent (cond b (Now.Is (currentAt h)) Now.Idle) ≡ b
     go true = refl

@@ -11,7 +11,7 @@ use Rattle.paper.specs.Numbers.{aSerial, serialNos}
 use Rattle.paper.specs.State.{allRefs}
 use Rattle.paper.specs.State as P
 use Rattle.paper.proofs.Bools.{split}
-use Rattle.derivation.specs.declared.rows.Refs.{Refs}
+use Rattle.derivation.specs.declared.ref_lists.Refs.{Refs}
 use Rattle.derivation.specs.Lists.{refsIn}
 use Rattle.store.specs.Shelf.{word}
 use Rattle.store.proofs.Tidy.{one-form}

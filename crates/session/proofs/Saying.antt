@@ -7,6 +7,7 @@ use lib.Dec.{leb}
 use lib.ListN.{length}
 use lib.Seq.{take-all}
 use native.Mathlib.Omega.{arith}
+use Rattle.paper.specs.Kinds.{configureKind, finishKind, drainKind, discardKind, endKind, abandonKind, replyTo}
 use Rattle.paper.specs.declared.Picture.{Picture}
 use Rattle.paper.specs.declared.Limits.{Limits}
 use Rattle.paper.specs.declared.Prev.{Prev}
@@ -138,44 +139,44 @@ module _ (h xs t : List ℕ) where
     idle-does k x q {h′} {t′} e f s n = accepted-does (idleWith v (x .pics) q) k (x .tail) (idle-next h′ t′ (e .front) f) s (λ z. e .words (frontOf v) (z .head)) n refl
 
     -- finish
-    pub finish-4 : nowAt h ≡ Now.Idle → Refuses 260 4 before a after → Does m (finishOf v) before a m after
+    pub finish-4 : nowAt h ≡ Now.Idle → Refuses (replyTo finishKind) 4 before a after → Does m (finishOf v) before a m after
     unfolding frontIn
     finish-4 e r = does-refuse (finish-idle v e) r
 
-    pub finish-9 : (c : Current) → nowAt h ≡ Now.Is c → full v ≡ true → Refuses 260 9 before a after → Does m (finishOf v) before a m after
+    pub finish-9 : (c : Current) → nowAt h ≡ Now.Is c → full v ≡ true → Refuses (replyTo finishKind) 9 before a after → Does m (finishOf v) before a m after
     unfolding frontIn
     finish-9 c e f r = does-refuse (finish-now v c e ∙ finish-full v c f) r
 
     pub finish-does : (c : Current) {l : Limits} {q p : Prev} {h′ t′ : List ℕ} {r : Store.Moved} → nowAt h ≡ Now.Is c → full v ≡ false → l ≡ limitsAt h → q ≡ prevAt h → p ≡ prevAfter q c
-        → Leaves (finished l (roomy (stored t)) c) t t′ r → Idles h h′ p → Says (framed 260 0 (tailBytes (tailIn r))) before a after
+        → Leaves (finished l (roomy (stored t)) c) t t′ r → Idles h h′ p → Says (framed (replyTo finishKind) 0 (tailBytes (tailIn r))) before a after
         → Does m (finishOf v) before a (memory h′ xs t′) after
     unfolding frontIn
     finish-does c {l} {q} {p} {h′} {t′} {r} e f el eq ep w i s =
         let z = subst (λ (ps : List Picture). Leaves (finished l ps c) t t′ r) (roomy-all (stored t) (spare v f)) w in
         let x = subst (λ (y : Limits). Leaves (finished y (stored t) c) t t′ r) el z in
         as-decided (finish-now v c e ∙ finish-room v c f)
-        (idle-does 4 (finished (limitsAt h) (stored t) c) (prevAfter (prevAt h) c) (subst (Idles h h′) (ep ∙ ap (λ (y : Prev). prevAfter y c) eq) i) (x .pics) (says-as 260 (tail-held (x .tail)) s) (x .normal))
+        (idle-does 4 (finished (limitsAt h) (stored t) c) (prevAfter (prevAt h) c) (subst (Idles h h′) (ep ∙ ap (λ (y : Prev). prevAfter y c) eq) i) (x .pics) (says-as (replyTo finishKind) (tail-held (x .tail)) s) (x .normal))
 
     -- drain
-    pub drain-9 : stuck ≡ true → Refuses 261 9 before a after → Does m (drainOf v) before a m after
+    pub drain-9 : stuck ≡ true → Refuses (replyTo drainKind) 9 before a after → Does m (drainOf v) before a m after
     unfolding frontIn
     drain-9 e r = does-refuse (drain-stuck v e) r
 
-    pub drain-does : {h′ t′ : List ℕ} → stuck ≡ false → Drained h t 261 before a h′ t′ after → Does m (drainOf v) before a (memory h′ xs t′) after
+    pub drain-does : {h′ t′ : List ℕ} → stuck ≡ false → Drained h t (replyTo drainKind) before a h′ t′ after → Does m (drainOf v) before a (memory h′ xs t′) after
     unfolding frontIn
     drain-does e d =
         as-decided (drain-free v e)
         (idle-does 5 (drained (limitsAt h) (stored t) (nowAt h)) (onNow (nowAt h) (prevAt h) (prevAfter (prevAt h))) (d .head) (d .pics) (d .says) (d .normal))
 
     -- configure
-    pub configure-2 : (l : Limits) → configureRanges l ≡ false → Refuses 257 2 before a after → Does m (configureOf v l) before a m after
+    pub configure-2 : (l : Limits) → configureRanges l ≡ false → Refuses (replyTo configureKind) 2 before a after → Does m (configureOf v l) before a m after
     configure-2 l e r = does-refuse (configure-bad v l e) r
 
-    pub configure-9 : (l : Limits) → configureRanges l ≡ true → stuck ≡ true → Refuses 257 9 before a after → Does m (configureOf v l) before a m after
+    pub configure-9 : (l : Limits) → configureRanges l ≡ true → stuck ≡ true → Refuses (replyTo configureKind) 9 before a after → Does m (configureOf v l) before a m after
     unfolding frontIn
     configure-9 l b e r = does-refuse (configure-stuck v l b e) r
 
-    pub configure-does : (l : Limits) (h2 : List ℕ) {n : Limits} {h1 h3 t′ : List ℕ} → configureRanges l ≡ true → stuck ≡ false → Drained h t 257 before a h1 t′ after → Idles h1 h2 Prev.Nothing
+    pub configure-does : (l : Limits) (h2 : List ℕ) {n : Limits} {h1 h3 t′ : List ℕ} → configureRanges l ≡ true → stuck ≡ false → Drained h t (replyTo configureKind) before a h1 t′ after → Idles h1 h2 Prev.Nothing
         → frontIn h3 ≡ configuredFront (frontIn h2) n → ((f : Front) → h2 ≡ headWords f → h3 ≡ headWords (configuredFront f n)) → n ≡ taken16 l → Does m (configureOf v l) before a (memory h3 xs t′) after
     unfolding frontIn refsIn
     configure-does l h2 {n} {t′ = t′} b e d i2 i3 w3 en =
@@ -188,24 +189,24 @@ module _ (h xs t : List ℕ) where
 
     -- discard
     pub discard-does : {x : Now} {q : Prev} {h′ t′ : List ℕ} {r : Store.Moved} → x ≡ nowAt h → q ≡ prevAt h → Leaves (discarded (stored t) x) t t′ r → Idles h h′ q
-        → Says (framed 262 0 (tailBytes (tailIn r))) before a after → Does m (discardOf v) before a (memory h′ xs t′) after
+        → Says (framed (replyTo discardKind) 0 (tailBytes (tailIn r))) before a after → Does m (discardOf v) before a (memory h′ xs t′) after
     unfolding frontIn
     discard-does {x} {q} {h′} {t′} {r} ex eq w i s =
         let y = subst (λ (n : Now). Leaves (discarded (stored t) n) t t′ r) ex w in
-        as-decided (discard-is v) (idle-does 6 (discarded (stored t) (nowAt h)) (prevAt h) (subst (Idles h h′) eq i) (y .pics) (says-as 262 (tail-held (y .tail)) s) (y .normal))
+        as-decided (discard-is v) (idle-does 6 (discarded (stored t) (nowAt h)) (prevAt h) (subst (Idles h h′) eq i) (y .pics) (says-as (replyTo discardKind) (tail-held (y .tail)) s) (y .normal))
 
     -- end of sequence
-    pub end-does : {h′ : List ℕ} → frontIn h′ ≡ endedFront (frontIn h) → ((f : Front) → h ≡ headWords f → h′ ≡ headWords (endedFront f)) → Says (framed 263 0 (tailBytes quiet)) before a after
+    pub end-does : {h′ : List ℕ} → frontIn h′ ≡ endedFront (frontIn h) → ((f : Front) → h ≡ headWords f → h′ ≡ headWords (endedFront f)) → Says (framed (replyTo endKind) 0 (tailBytes quiet)) before a after
         → Does m (endOf v) before a (memory h′ xs t) after
     end-does e w s = as-decided (end-is v) (accepted-does (endedSession v) 7 quiet (ap (λ (x : Front). sessionOf x xs t) e) s (λ z. w (frontOf v) (z .head)) (λ n. n) refl)
 
     -- abandon
-    pub abandon-4 : nowAt h ≡ Now.Idle → Refuses 264 4 before a after → Does m (abandonOf v) before a m after
+    pub abandon-4 : nowAt h ≡ Now.Idle → Refuses (replyTo abandonKind) 4 before a after → Does m (abandonOf v) before a m after
     unfolding frontIn
     abandon-4 e r = does-refuse (abandon-idle v e) r
 
     pub abandon-does : (c : Current) {q : Prev} {h′ : List ℕ} {y : Store.Moved} → nowAt h ≡ Now.Is c → q ≡ prevAt h → HoldsTail y (dropped c) → Idles h h′ q
-        → Says (framed 264 0 (tailBytes (tailIn y))) before a after → Does m (abandonOf v) before a (memory h′ xs t) after
+        → Says (framed (replyTo abandonKind) 0 (tailBytes (tailIn y))) before a after → Does m (abandonOf v) before a (memory h′ xs t) after
     unfolding frontIn
     abandon-does c {h′ = h′} e eq d i s =
-        as-decided (abandon-now v c e) (idle-does 8 (record { pics = stored t; tail = dropped c }) (prevAt h) (subst (Idles h h′) eq i) refl (says-as 264 (tail-held d) s) (λ n. n))
+        as-decided (abandon-now v c e) (idle-does 8 (record { pics = stored t; tail = dropped c }) (prevAt h) (subst (Idles h h′) eq i) refl (says-as (replyTo abandonKind) (tail-held d) s) (λ n. n))

@@ -13,6 +13,7 @@ use Rattle.paper.specs.declared.Current.{Current}
 use Rattle.paper.specs.declared.Now.{Now}
 use Rattle.paper.specs.Words.{_gives_, first, anyB, table}
 use Rattle.paper.specs.Numbers.{u8, bit}
+use Rattle.paper.specs.Kinds.{listsKind, replyTo}
 use Rattle.paper.specs.Records.{ListAsk, Slice, lengthOf, entries0, entries1, sliceOf, bodyOk, wellFormed}
 use Rattle.paper.specs.State.{Session, Refs, onNow}
 use Rattle.paper.specs.Ranges.{activeOk, listsRanges}
@@ -23,20 +24,21 @@ use Rattle.paper.specs.Step.{refused, listsRefusal, listsAt, listsOf}
 use Rattle.paper.proofs.Bools.{left, right}
 use Rattle.paper.proofs.Ways.{first-none, yes-of}
 use Rattle.paper.proofs.Fits.{table-length}
-use Rattle.derivation.specs.declared.rows.RefList.{RefList}
+use Rattle.derivation.specs.declared.ref_lists.RefList.{RefList}
 use Rattle.derivation.specs.Lists.{noList, candidatesOf, listOf, builtOf, CandidateCount, Ready, HoldsList}
 use Rattle.derivation.proofs.Pad.{is-view, is-good}
 use Rattle.derivation.proofs.Runs.{none-held}
 use Rattle.derivation.proofs.Instances.{list0-is, list1-is, built-is, candidates-0, candidates-1}
 use Rattle.session.specs.declared.Answer.{Answer}
 use Rattle.session.specs.declared.Refusal.{Refusal}
-use Rattle.session.specs.declared.listing.Ask.{Ask}
-use Rattle.session.specs.declared.listing.Verdict.{Verdict}
-use Rattle.session.specs.declared.listing.Verdict.the-variants.{Fine, No}
+use Rattle.session.specs.declared.lists.Ask.{Ask}
+use Rattle.session.specs.declared.lists.SliceHead.{SliceHead}
+use Rattle.session.specs.declared.lists.Verdict.{Verdict}
+use Rattle.session.specs.declared.lists.Verdict.the-variants.{Fine, No}
 use Rattle.session.specs.Numbered.{numberOf}
 use Rattle.session.specs.Said.{Says, Refuses, Answers, WellFormed}
 use Rattle.session.proofs.Bytes.{refusal-number}
-use Rattle.session.specs.Slices.{AsksAs, numberIn, listsNumber}
+use Rattle.session.specs.Slices.{AsksAs, ReadsAs, numberIn, listsNumber}
 use Rattle.session.specs.Written.{listIn, Listable}
 
 -- ---- the entry bytes
@@ -64,6 +66,16 @@ laid r w =
     let g : lengthOf r ≡ 4 + entries0 r + entries1 r = eqb-true (lengthOf r) (4 + entries0 r + entries1 r) d in
     let h : lengthOf r ≤ 512 = leb-true (lengthOf r) 512 (right (leb 4 (length r) && eqb (length r) (4 + lengthOf r)) _ a) in
     record { whole = omega arith; short = omega arith }
+
+-- the counts of what was read are the record's
+module _ {m : ℕ} {a : Ask} (r : List ℕ) where
+  pub count-0 : AsksAs a (sliceOf r .ask0) → m ≡ cond (a .modify) (a .active) 0 → m ≡ entries0 r
+  unfolding sliceOf
+  count-0 p e = e ∙ (λ i. cond (p .modify i) (p .active i) 0)
+
+  pub count-1 : AsksAs a (sliceOf r .ask1) → m ≡ cond (a .modify) (a .active) 0 → m ≡ entries1 r
+  unfolding sliceOf
+  count-1 p e = e ∙ (λ i. cond (p .modify i) (p .active i) 0)
 
 module _ {m : ℕ} (r : List ℕ) (w : WellFormed 3 r) (e : m ≡ entries0 r) where
   pub entries-0 : take (8 + m - 8) (drop 8 r) ≡ sliceOf r .ask0 .entries
@@ -96,10 +108,6 @@ bytes-1 r e = when-modified (λ (i : ℕ). u8 r (8 + entries0 r + i)) (bit 1 (u8
 uses-both : (r : List ℕ) → sliceOf r .ask1 .uses ≡ true → sliceOf r .ask0 .uses ≡ true
 unfolding sliceOf
 uses-both r e = lt-ltb (u8 r 4) 2 (omega (arith, eqb-true (u8 r 4) 0 e))
-
-pub own-is : {b : ℕ} {own : Bool} (r : List ℕ) → own ≡ bit 2 b → b ≡ u8 r 5 → own ≡ sliceOf r .own
-unfolding sliceOf
-own-is r e g = e ∙ ap (bit 2) g
 
 -- ---- the order of refusals, as it is tested
 
@@ -139,13 +147,18 @@ unfolding listsNumber first
 fails-5 x f e c = rw e
 
 -- what is read and counted of a record whose fields are within their ranges
-pub record Judging (x : Refs) (f : Slice) (a b : Ask) (n : ℕ) : Type 0 where
+pub record Judging (x : Refs) (f : Slice) (h : SliceHead) (n : ℕ) : Type 0 where
   pub ok : listsRanges f ≡ true
-  pub first : AsksAs a (f .ask0)
-  pub other : AsksAs b (f .ask1)
+  pub reads : ReadsAs h f
   pub count : CandidateCount x (f .own) n
 
-module _ {x : Refs} {f : Slice} {a b : Ask} {n : ℕ} (g : Judging x f a b n) where
+module _ {x : Refs} {f : Slice} {h : SliceHead} {n : ℕ} (g : Judging x f h n) where
+  abbrev a : Ask
+  a = h .ask0
+
+  abbrev b : Ask
+  b = h .ask1
+
   tests-are : (c : Serial) → listsNumber x c f ≡ first (noneOf a n gives 10 ∷ (manyOf a n || manyOf b n) gives 11 ∷ badOf f n gives 12 ∷ [])
   unfolding listsNumber
   tests-are c =
@@ -153,7 +166,7 @@ module _ {x : Refs} {f : Slice} {a b : Ask} {n : ℕ} (g : Judging x f a b n) wh
       let ds = candidates1 x (f .own) c in
       let k = g .count .first c in
       let j = g .count .other c in
-      rw (none-is x c f a n (g .first) k, many-is a (f .ask0) cs n (g .first) k, many-is b (f .ask1) ds n (g .other) j, bad-is (f .ask0) cs n k, bad-is (f .ask1) ds n j)
+      rw (none-is x c f a n (g .reads .ask0) k, many-is a (f .ask0) cs n (g .reads .ask0) k, many-is b (f .ask1) ds n (g .reads .ask1) j, bad-is (f .ask0) cs n k, bad-is (f .ask1) ds n j)
       (in-order (listsRanges f) (noneOf a n) (manyOf a n) (manyOf b n) (anyB (λ (e : ℕ). leb n e) (f .ask0 .entries)) (anyB (λ (e : ℕ). leb n e) (f .ask1 .entries)) (g .ok))
 
   pub fails-10 : noneOf a n ≡ true → (c : Serial) → 10 ≡ listsNumber x c f
@@ -278,7 +291,7 @@ unfolding listsRefusal listsNumber
 same-order s x c f e = ap (λ (y : Refs). listsNumber y (c .serial) f) e
 
 module _ {a : Answer} (s : Session) (x : Refs) (r : s .refs ≡ x) (c : Current) (f : Slice) (before after : List ℕ) where
-  pub answers-no : (v : Verdict) (why : Refusal) → v ≡ No why → numberIn v ≡ listsNumber x (c .serial) f → Refuses 259 (numberOf why) before a after → Answers (listsAt s f c) before a after
+  pub answers-no : (v : Verdict) (why : Refusal) → v ≡ No why → numberIn v ≡ listsNumber x (c .serial) f → Refuses (replyTo listsKind) (numberOf why) before a after → Answers (listsAt s f c) before a after
   unfolding bytesOf
   answers-no v why e j h =
       let i : listsRefusal s c f ≡ numberOf why = same-order s x c f r ∙ sym j ∙ rw e in
@@ -289,13 +302,13 @@ module _ {a : Answer} (s : Session) (x : Refs) (r : s .refs ≡ x) (c : Current)
       let i : listsRefusal s c f ≡ 0 = same-order s x c f r ∙ j in
       rw (i, r) (record { answer = h .answer; bytes = h .bytes })
 
-now-is : (s : Session) (f : Slice) (w : Now) → s .current ≡ w → listsOf s f ≡ onNow w (refused s 259 4) (listsAt s f)
+now-is : (s : Session) (f : Slice) (w : Now) → s .current ≡ w → listsOf s f ≡ onNow w (refused s (replyTo listsKind) 4) (listsAt s f)
 unfolding listsOf
-now-is s f w e = ap (λ (v : Now). onNow v (refused s 259 4) (listsAt s f)) e
+now-is s f w e = ap (λ (v : Now). onNow v (refused s (replyTo listsKind) 4) (listsAt s f)) e
 
-pub answers-now : {a : Answer} (s : Session) (f : Slice) (before after : List ℕ) (w : Now) → s .current ≡ w → Answers (onNow w (refused s 259 4) (listsAt s f)) before a after → Answers (listsOf s f) before a after
+pub answers-now : {a : Answer} (s : Session) (f : Slice) (before after : List ℕ) (w : Now) → s .current ≡ w → Answers (onNow w (refused s (replyTo listsKind) 4) (listsAt s f)) before a after → Answers (listsOf s f) before a after
 answers-now s f before after w e h = rw (now-is s f w e) h
 
-pub answers-idle : {a : Answer} (s : Session) (before after : List ℕ) → Refuses 259 4 before a after → Answers (refused s 259 4) before a after
+pub answers-idle : {a : Answer} (s : Session) (before after : List ℕ) → Refuses (replyTo listsKind) 4 before a after → Answers (refused s (replyTo listsKind) 4) before a after
 unfolding bytesOf
 answers-idle s before after h = record { answer = h .answer; bytes = h .bytes }

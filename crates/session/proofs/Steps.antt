@@ -8,6 +8,7 @@ use lib.Dec.{eqb, leb}
 use lib.ListN.{length}
 use borrow.Author.Tests.{le-ltb, eqb-true, leb-true}
 use Rattle.wire.specs.Bytes.{over}
+use Rattle.paper.specs.Kinds.{configureKind, beginKind, listsKind, finishKind, abandonKind, replyTo, malformedReply}
 use Rattle.paper.specs.declared.Now.{Now}
 use Rattle.paper.specs.declared.Now.the-variants as Now
 use Rattle.paper.specs.Records.{Slice, kindOf, lengthOf, bodyOk, wellFormed, limitsOf, fieldsOf, sliceOf}
@@ -25,16 +26,16 @@ use Rattle.session.specs.Said.{Answers, Does, WellFormed, Permitted}
 -- ---- the kind that was read
 
 -- a well-formed record is of a kind from 1 to 8
-known-kind : (r : List ℕ) → wellFormed r ≡ true → (1 ≤ kindOf r) × (kindOf r ≤ 8)
+known-kind : (r : List ℕ) → wellFormed r ≡ true → (1 ≤ kindOf r) × (kindOf r ≤ abandonKind)
 unfolding wellFormed
 known-kind r h =
     let b : bodyOk r ≡ true = right (leb 4 (length r) && eqb (length r) (4 + lengthOf r) && leb (lengthOf r) 512) _ h in
-    split (eqb (kindOf r) 1) (λ e. let k = eqb-true (kindOf r) 1 e in (omega arith, omega arith)) (λ e1.
-    split (eqb (kindOf r) 2) (λ e. let k = eqb-true (kindOf r) 2 e in (omega arith, omega arith)) (λ e2.
-    split (eqb (kindOf r) 3) (λ e. let k = eqb-true (kindOf r) 3 e in (omega arith, omega arith)) (λ e3.
-    let c : (leb 4 (kindOf r) && leb (kindOf r) 8 && eqb (lengthOf r) 0) ≡ true = rw (e1, e2, e3) at b in
-    let d : (leb 4 (kindOf r) && leb (kindOf r) 8) ≡ true = left (leb 4 (kindOf r) && leb (kindOf r) 8) _ c in
-    (omega (arith, leb-true 4 (kindOf r) (left (leb 4 (kindOf r)) _ d)), leb-true (kindOf r) 8 (right (leb 4 (kindOf r)) _ d)))))
+    split (eqb (kindOf r) configureKind) (λ e. let k = eqb-true (kindOf r) configureKind e in (omega arith, omega arith)) (λ e1.
+    split (eqb (kindOf r) beginKind) (λ e. let k = eqb-true (kindOf r) beginKind e in (omega arith, omega arith)) (λ e2.
+    split (eqb (kindOf r) listsKind) (λ e. let k = eqb-true (kindOf r) listsKind e in (omega arith, omega arith)) (λ e3.
+    let c : (leb finishKind (kindOf r) && leb (kindOf r) abandonKind && eqb (lengthOf r) 0) ≡ true = rw (e1, e2, e3) at b in
+    let d : (leb finishKind (kindOf r) && leb (kindOf r) abandonKind) ≡ true = left (leb finishKind (kindOf r) && leb (kindOf r) abandonKind) _ c in
+    (omega (arith, leb-true finishKind (kindOf r) (left (leb finishKind (kindOf r)) _ d)), leb-true (kindOf r) abandonKind (right (leb finishKind (kindOf r)) _ d)))))
 
 pub formed : {n : ℕ} (k : ℕ) (r : List ℕ) → n ≡ kindIn r → n ≡ suc k → WellFormed (suc k) r
 unfolding kindIn
@@ -64,13 +65,13 @@ malformed {n} r e n1 n2 n3 n4 n5 n6 n7 n8 =
 -- ---- what is decided, by the kind
 
 module _ (v : P.Session) (r : List ℕ) where
-  pub decides-13 : wellFormed r ≡ false → decideOf v r ≡ refused v 511 13
+  pub decides-13 : wellFormed r ≡ false → decideOf v r ≡ refused v malformedReply 13
   unfolding decideOf
-  decides-13 e = ap (λ (b : Bool). cond b (byKind v r) (refused v 511 13)) e
+  decides-13 e = ap (λ (b : Bool). cond b (byKind v r) (refused v malformedReply 13)) e
 
   by-kind : {k : ℕ} → WellFormed k r → decideOf v r ≡ byKind v r
   unfolding decideOf
-  by-kind w = ap (λ (b : Bool). cond b (byKind v r) (refused v 511 13)) (w .formed)
+  by-kind w = ap (λ (b : Bool). cond b (byKind v r) (refused v malformedReply 13)) (w .formed)
 
   -- the arm of kind n, with the record's kind in its place
   abbrev arm : ℕ → Decided
@@ -97,7 +98,7 @@ lists-keep : (s : P.Session) (f : Slice) → Keeps s (listsOf s f)
 unfolding listsOf
 lists-keep s f = go (s .current)
   where
-    go : (x : Now) → Keeps s (onNow x (refused s 259 4) (listsAt s f))
+    go : (x : Now) → Keeps s (onNow x (refused s (replyTo listsKind) 4) (listsAt s f))
     go Now.Idle = record { is = refl }
     go (Now.Is c) = by-case (Keeps s) (eqb (listsRefusal s c f) 0) _ _ (λ _. record { is = refl }) (λ _. record { is = refl })
 

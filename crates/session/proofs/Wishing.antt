@@ -15,10 +15,10 @@ use Rattle.paper.specs.Records.{fieldsOf, shortAt, longAt}
 use Rattle.paper.specs.Sets.{Wishes, shortWish, longWish, wishesOf, wishIn32, wishesIn32}
 use Rattle.paper.proofs.Bools.{left, right, split}
 use Rattle.paper.proofs.Fits.{table-length}
-use Rattle.derivation.specs.declared.wishing.Wanted.{Wanted}
-use Rattle.derivation.specs.declared.wishing.Wanted.the-variants as W
+use Rattle.derivation.specs.declared.wishes.Wanted.{Wanted}
+use Rattle.derivation.specs.declared.wishes.Wanted.the-variants as W
 use Rattle.derivation.specs.Answers.{wantedOf}
-use Rattle.session.specs.declared.reading.Head.{Head}
+use Rattle.session.specs.declared.records.Head.{Head}
 use Rattle.store.specs.Runs.{wishAt, wishesAt, wishesIn}
 use Rattle.session.specs.Parts.{headOf, shortsAt, longsAt, isWanted, Wants, WantsAll, HoldsWishes}
 use Rattle.session.proofs.Entries.{all-both, all-more}

@@ -12,7 +12,7 @@ use Rattle.paper.specs.declared.Limits.{Limits}
 use Rattle.paper.specs.declared.Prev.{Prev}
 use Rattle.paper.specs.declared.Prev.the-variants as Prev
 use Rattle.paper.specs.declared.Now.{Now}
-use Rattle.derivation.specs.declared.rows.Refs.{Refs}
+use Rattle.derivation.specs.declared.ref_lists.Refs.{Refs}
 use Rattle.store.specs.Shelf.{NormalForm}
 use Rattle.session.specs.View.{Memory, Front, flagWord, sessionIn}
 

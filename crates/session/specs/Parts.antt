@@ -8,12 +8,13 @@ use lib.IntN.{ℤ}
 use Rattle.paper.specs.declared.Wish.{Wish}
 use Rattle.paper.specs.Words.{allB, table}
 use Rattle.paper.specs.Numbers.{u8, u16, u32, aSurface}
+use Rattle.paper.specs.Kinds.{surfacePlace}
 use Rattle.paper.specs.Records.{kindOf, wellFormed, shortAt, longAt}
 use Rattle.paper.specs.Sets.{Wishes, shortWish, longWish, wishIn32, wishesIn32}
-use Rattle.derivation.specs.declared.wishing.Wanted.{Wanted}
-use Rattle.derivation.specs.declared.wishing.Wanted.the-variants as W
+use Rattle.derivation.specs.declared.wishes.Wanted.{Wanted}
+use Rattle.derivation.specs.declared.wishes.Wanted.the-variants as W
 use Rattle.store.specs.Runs.{wishAt, wishesAt, wishesIn}
-use Rattle.session.specs.declared.reading.Head.{Head}
+use Rattle.session.specs.declared.records.Head.{Head}
 
 -- the kind of a well-formed record, else 0
 unfoldable pub kindIn : List ℕ → ℕ
@@ -27,7 +28,7 @@ headOf r =
       tid = u8 r 5;
       flags = u8 r 6;
       lsb = u16 r 7;
-      surface = aSurface (u32 r 9);
+      surface = aSurface (u32 r surfacePlace);
       neg = u8 r 13;
       pos = u8 r 14;
       lt = u8 r 15;

@@ -3,17 +3,20 @@ use Prim.Native.Nat.{ℕ, _≤_}
 use mathlib.Core.Path.{_≡_}
 use mathlib.Core.List.{List, []}
 use lib.ListN.{length}
+use denote.Ref.{RefT, now}
+use denote.Triple.Both.{Both}
 use Rattle.wire.specs.Bytes.{over}
+use Rattle.paper.specs.Kinds.{restPlace}
 use Rattle.paper.specs.Records.{kindOf, wellFormed}
 use Rattle.paper.specs.Replies.{bytesOf, framed, tailBytes}
-use Rattle.paper.specs.State.{onNow, allRefs}
+use Rattle.paper.specs.State.{Session, onNow, allRefs}
 use Rattle.paper.specs.Calls.{drained, prevAfter}
 use Rattle.paper.specs.Step.{Decided, stepOf}
 use mathlib.Core.Bool.{true}
 use Rattle.paper.specs.declared.Prev.{Prev}
 use Rattle.store.specs.Shelf.{word, stored, NormalForm}
 use Rattle.session.specs.declared.Answer.{Answer}
-use Rattle.session.specs.View.{Memory, Front, sessionIn, frontIn, idleFront, nowAt, prevAt, limitsAt}
+use Rattle.session.specs.View.{Memory, Front, memory, sessionIn, frontIn, idleFront, nowAt, prevAt, limitsAt}
 use Rattle.session.specs.Laid.{headWords, NormalMemory}
 
 -- an accepted record's reply
@@ -23,7 +26,7 @@ pub record Says (reply before : List ℕ) (a : Answer) (after : List ℕ) : Type
 
 -- a refused one's
 pub record Refuses (kind number : ℕ) (before : List ℕ) (a : Answer) (after : List ℕ) : Type 0 where
-  pub answer : a ≡ record { number = number; len = 6 }
+  pub answer : a ≡ record { number = number; len = restPlace }
   pub bytes : after ≡ over (framed kind number []) before
 
 -- the answer and the reply to a record of which d was decided
@@ -39,6 +42,29 @@ pub record Does (m : Memory) (d : Decided) (before : List ℕ) (a : Answer) (m�
   pub left : (d .number ≡ 0 → ⊥) → m′ ≡ m
   pub normal : NormalMemory m → NormalMemory m′
   pub run : (i : ℕ) → length (allRefs (d .next .refs)) ≤ i → word (m′ .sets) i ≡ word (m .sets) i
+
+-- what is lent to a call, words or bytes: `.entry` as the call finds it, `.exit` as it leaves it
+abbrev pub Lent : Type 0
+Lent = Both (RefT (List ℕ)) (RefT (List ℕ))
+
+-- a call decides of the session that lies in m by `decide`, answers and writes what was decided, and leaves m′
+abbrev pub Decides : (Session → Decided) → Memory → Memory → Lent → Answer → Type 0
+Decides decide m m′ reply a = Does m (decide (sessionIn m)) (now (reply .entry)) a m′ (now (reply .exit))
+
+-- where the whole memory is lent to it
+abbrev pub Calls : (Session → Decided) → Lent → Lent → Lent → Lent → Answer → Type 0
+Calls decide head run places reply a =
+    Decides decide (memory (now (head .entry)) (now (run .entry)) (now (places .entry)))
+    (memory (now (head .exit)) (now (run .exit)) (now (places .exit))) reply a
+
+-- where the run of the sets is not lent to it: whatever that holds
+abbrev pub CallsStore : (Session → Decided) → Lent → Lent → Lent → Answer → Type 0
+CallsStore decide head places reply a =
+    (xs : List ℕ) → Decides decide (memory (now (head .entry)) xs (now (places .entry))) (memory (now (head .exit)) xs (now (places .exit))) reply a
+
+-- where neither that run nor the store is lent to it
+abbrev pub CallsHead : (Session → Decided) → Lent → Lent → Answer → Type 0
+CallsHead decide head reply a = (xs t : List ℕ) → Decides decide (memory (now (head .entry)) xs t) (memory (now (head .exit)) xs t) reply a
 
 -- "reply buffer under 512 bytes" is number 14: the calls behind it have the room
 pub record Roomy (reply : List ℕ) : Type 0 where
@@ -60,6 +86,10 @@ pub record Drained (h t : List ℕ) (kind : ℕ) (before : List ℕ) (a : Answer
   pub pics : stored t′ ≡ drained (limitsAt h) (stored t) (nowAt h) .pics
   pub head : Idles h h′ (onNow (nowAt h) (prevAt h) (prevAfter (prevAt h)))
   pub normal : NormalForm t → NormalForm t′
+
+-- of what is lent to it
+abbrev pub Drains : ℕ → Lent → Lent → Lent → Answer → Type 0
+Drains kind head places reply a = Drained (now (head .entry)) (now (places .entry)) kind (now (reply .entry)) a (now (head .exit)) (now (places .exit)) (now (reply .exit))
 
 -- The contract of `step`: the answer, the whole buffer and the next session are those of the paper's `stepOf`; a refused record leaves every word as it was; memory in
 -- its normal form stays so; and the run of the sets stays as it was behind the next session's members

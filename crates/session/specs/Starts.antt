@@ -5,6 +5,7 @@ use mathlib.Core.Path.{_≡_}
 use mathlib.Core.List.{List, _++_}
 use mathlib.Core.Bool.{Bool, true, false, cond, not, _&&_}
 use lib.Dec.{eqb}
+use Rattle.paper.specs.declared.Limits.{Limits}
 use Rattle.paper.specs.declared.Prev.{Prev}
 use Rattle.paper.specs.declared.Prev.the-variants as Prev
 use Rattle.paper.specs.declared.Current.{Current}
@@ -12,6 +13,7 @@ use Rattle.paper.specs.declared.Serial.{Serial}
 use Rattle.paper.specs.declared.Picture.{Picture}
 use Rattle.paper.specs.Words.{anyB}
 use Rattle.paper.specs.Numbers.{bit, flagAt, missing, aSerial}
+use Rattle.paper.specs.Kinds.{beginKind, replyTo}
 use Rattle.paper.specs.State.{isCurrent, modulus}
 use Rattle.paper.specs.Records.{fieldsOf}
 use Rattle.paper.specs.Nal.{irap}
@@ -24,15 +26,16 @@ use Rattle.paper.specs.Step.{heldBy}
 use Rattle.paper.specs.State.{Session}
 use Rattle.paper.specs.Output.{beforeDecoding}
 use Rattle.paper.specs.Replies.{framed, tailBytes}
-use Rattle.derivation.specs.declared.rows.Refs.{Refs}
+use Rattle.derivation.specs.declared.ref_lists.Refs.{Refs}
 use Rattle.store.specs.declared.Sizes.{Sizes}
 use Rattle.store.specs.Shelf.{word, stored, NormalForm}
 use Rattle.store.specs.Runs.{wishesIn}
-use Rattle.session.specs.declared.reading.Head.{Head}
+use Rattle.session.specs.declared.records.Head.{Head}
 use Rattle.session.specs.declared.Answer.{Answer}
-use Rattle.session.specs.declared.writing.Told.{Told}
-use Rattle.session.specs.declared.starting.Flags.{Flags}
-use Rattle.session.specs.declared.starting.Start.{Start}
+use Rattle.session.specs.declared.replies.Told.{Told}
+use Rattle.session.specs.declared.begin.Flags.{Flags}
+use Rattle.session.specs.declared.begin.Start.{Start}
+use Rattle.session.specs.HeadPlaces.{ENDED, NEXT}
 use Rattle.session.specs.Parts.{headOf}
 use Rattle.session.specs.View.{flagOf, limitsAt}
 use Rattle.session.specs.Said.{Says}
@@ -64,8 +67,10 @@ toldFrom next t = record { poc = t .poc; flags = flagsNumber (t .flags); serial 
 abbrev pub refsFrom : Sizes → Refs
 refsFrom x = record { before = x .before; after = x .after; long = x .long }
 
--- none of 1, 3, 5, 8 and 7
-pub record Passed (s : Session) (r : List ℕ) : Type 0 where
+-- none of 1, 3, 5, 8 and 7, where l are the limits and h the fields of the begin before its entries
+pub record Passed (s : Session) (r : List ℕ) (l : Limits) (h : Head) : Type 0 where
+  pub limits : l ≡ s .limits
+  pub head : h ≡ headOf r
   pub configured : s .configured ≡ true
   pub idle : isCurrent (s .current) ≡ false
   pub ranges : beginRanges (modulus (s .limits)) (fieldsOf r) ≡ true
@@ -73,23 +78,22 @@ pub record Passed (s : Session) (r : List ℕ) : Type 0 where
   pub free : anyB (heldBy (fieldsOf r .surface)) (s .store) ≡ false
 
 -- and the flags, the MSB and the POC, which lie in i32
-pub record Placed (s : Session) (r : List ℕ) (h : Head) (t : Start) : Type 0 where
-  pub passed : Passed s r
-  pub head : h ≡ headOf r
+pub record Placed (s : Session) (r : List ℕ) (l : Limits) (h : Head) (t : Start) : Type 0 where
+  pub passed : Passed s r l h
   pub flags : t .flags ≡ flagsFrom (s .atStart) (s .ended) h
   pub msb : t .msb ≡ Begin.msb s (fieldsOf r)
   pub poc : t .poc ≡ Begin.poc s (fieldsOf r)
   pub inside : (in32 (t .msb) && in32 (t .poc)) ≡ true
 
 -- and the wishes, all of which do
-pub record Wished (s : Session) (r : List ℕ) (h : Head) (t : Start) (ps : List ℤ) (hs : List ℕ) : Type 0 where
-  pub placed : Placed s r h t
+pub record Wished (s : Session) (r : List ℕ) (l : Limits) (h : Head) (t : Start) (ps : List ℤ) (hs : List ℕ) : Type 0 where
+  pub placed : Placed s r l h t
   pub within : within s (fieldsOf r) ≡ true
   pub few : h .neg + h .pos + h .lt ≤ 16
   pub wishes : wishesIn ps hs (h .neg) (h .pos) (h .lt) ≡ wishes s (fieldsOf r)
 
 -- step 5 of the pictures that step 4 marked, and the reply, where the two runs of the sets are us and vs
 pub record Tells (h : List ℕ) (us vs : List Serial) (ps : List Picture) (p : List ℕ) (t : Start) (x : Sizes) (before : List ℕ) (a : Answer) (p′ after : List ℕ) : Type 0 where
-  pub pics : stored p′ ≡ beforeDecoding (t .flags .over && not (flagOf (word h 2))) (t .flags .prior) (limitsAt h) ps .pics
+  pub pics : stored p′ ≡ beforeDecoding (t .flags .over && not (flagOf (word h ENDED))) (t .flags .prior) (limitsAt h) ps .pics
   pub normal : NormalForm p → NormalForm p′
-  pub says : Says (framed 258 0 (begunPart (toldFrom (word h 3) t) x us vs ++ tailBytes (beforeDecoding (t .flags .over && not (flagOf (word h 2))) (t .flags .prior) (limitsAt h) ps .tail))) before a after
+  pub says : Says (framed (replyTo beginKind) 0 (begunPart (toldFrom (word h NEXT) t) x us vs ++ tailBytes (beforeDecoding (t .flags .over && not (flagOf (word h ENDED))) (t .flags .prior) (limitsAt h) ps .tail))) before a after

@@ -14,10 +14,12 @@ use Rattle.paper.specs.declared.Prev.the-variants as Prev
 use Rattle.paper.specs.declared.Current.{Current}
 use Rattle.paper.specs.declared.Now.{Now}
 use Rattle.paper.specs.declared.Now.the-variants as Now
-use Rattle.derivation.specs.declared.rows.Refs.{Refs}
+use Rattle.derivation.specs.declared.ref_lists.Refs.{Refs}
 use Rattle.derivation.specs.Lists.{refsIn}
 use Rattle.store.specs.Shelf.{word, stored}
 use Rattle.store.specs.Shelf as Shelf
+use Rattle.session.specs.HeadPlaces.{CONFIGURED, FIRST, ENDED, NEXT, K, CAPACITY, BUFFERING, REORDER, LATENCY, PREV, PREV-LSB, PREV-MSB}
+use Rattle.session.specs.HeadPlaces.{CURRENT, SERIAL, SURFACE, POC, LSB, MSB, OUTPUT, VALID, BEFORE, AFTER, LONG}
 
 abbrev pub flagOf : ℕ → Bool
 flagOf x = Shelf.flagOf x
@@ -37,28 +39,28 @@ memory h xs t = record { head = h; sets = xs; places = t }
 -- what the words beside the store say, part by part
 
 abbrev pub limitsAt : List ℕ → Limits
-limitsAt h = record { k = word h 4 % 256; capacity = word h 5 % 256; buffering = word h 6 % 256; reorder = word h 7 % 256; latency = word h 8 % 65536 }
+limitsAt h = record { k = word h K % 256; capacity = word h CAPACITY % 256; buffering = word h BUFFERING % 256; reorder = word h REORDER % 256; latency = word h LATENCY % 65536 }
 
 abbrev pub prevAt : List ℕ → Prev
-prevAt h = cond (flagOf (word h 9)) (Prev.Tid0 (word h 10 % 65536) (toZ w32 (word h 11))) Prev.Nothing
+prevAt h = cond (flagOf (word h PREV)) (Prev.Tid0 (word h PREV-LSB % 65536) (toZ w32 (word h PREV-MSB))) Prev.Nothing
 
 abbrev pub currentAt : List ℕ → Current
 currentAt h =
     record {
-      serial = aSerial (word h 13);
-      surface = aSurface (word h 14);
-      poc = toZ w32 (word h 15);
-      lsb = word h 16 % 65536;
-      msb = toZ w32 (word h 17);
-      output = flagOf (word h 18);
-      valid = flagOf (word h 19);
+      serial = aSerial (word h SERIAL);
+      surface = aSurface (word h SURFACE);
+      poc = toZ w32 (word h POC);
+      lsb = word h LSB % 65536;
+      msb = toZ w32 (word h MSB);
+      output = flagOf (word h OUTPUT);
+      valid = flagOf (word h VALID);
     }
 
 abbrev pub nowAt : List ℕ → Now
-nowAt h = cond (flagOf (word h 12)) (Now.Is (currentAt h)) Now.Idle
+nowAt h = cond (flagOf (word h CURRENT)) (Now.Is (currentAt h)) Now.Idle
 
 abbrev pub refsAt : List ℕ → Refs
-refsAt h = record { before = word h 20 % 256; after = word h 21 % 256; long = word h 22 % 256 }
+refsAt h = record { before = word h BEFORE % 256; after = word h AFTER % 256; long = word h LONG % 256 }
 
 -- all of it
 pub record Front : Type 0 where
@@ -74,14 +76,14 @@ pub record Front : Type 0 where
 unfoldable pub frontIn : List ℕ → Front
 frontIn h =
     record {
-      configured = flagOf (word h 0);
+      configured = flagOf (word h CONFIGURED);
       limits = limitsAt h;
       current = nowAt h;
       refs = refsAt h;
       prev = prevAt h;
-      start = flagOf (word h 1);
-      ended = flagOf (word h 2);
-      next = word h 3;
+      start = flagOf (word h FIRST);
+      ended = flagOf (word h ENDED);
+      next = word h NEXT;
     }
 
 -- the paper's session

@@ -7,10 +7,10 @@ use Rattle.paper.specs.Words.{table}
 use Rattle.paper.specs.Numbers.{bytes32, signed32}
 use Rattle.paper.specs.Replies.{words}
 use Rattle.derivation.specs.Pad.{used}
-use Rattle.derivation.specs.declared.rows.RefList.{RefList}
+use Rattle.derivation.specs.declared.ref_lists.RefList.{RefList}
 use Rattle.derivation.specs.Lists.{HoldsList, blankSerial}
 use Rattle.store.specs.declared.Sizes.{Sizes}
-use Rattle.session.specs.declared.writing.Told.{Told}
+use Rattle.session.specs.declared.replies.Told.{Told}
 
 -- the members of all five sets are sixteen at most
 pub record FewMembers (x : Sizes) : Type 0 where

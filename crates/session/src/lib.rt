@@ -1,11 +1,12 @@
-// Layer 3, the session: one call takes lent memory that a session lies in, a lent record and a lent reply buffer, and answers a number and the reply's length. Any
-// bytes get an answer, and any memory is safe: its words are taken as some session, whatever they are.
-mod closing;
-mod heads;
-mod listing;
-mod reading;
-mod starting;
-mod writing;
+// Layer 3, the session: one call takes lent memory that a session lies in, a lent record and a lent reply buffer,
+// and answers a number and the reply's length. Any bytes get an answer, and any memory is safe: its words are taken
+// as some session, whatever they are.
+mod begin;
+mod calls;
+mod lists;
+mod records;
+mod replies;
+mod words;
 
 ghost use mathlib.Core.Path.{_≡_};
 ghost use lib.ListN.{replicate};
@@ -14,6 +15,7 @@ ghost use Rattle.session.specs.Numbered.{numberOf};
 ghost use Rattle.session.specs.View.{memory, sessionIn};
 ghost use Rattle.session.specs.Laid.{NormalMemory};
 ghost use Rattle.session.specs.Said.{Permitted};
+use format::kinds;
 use store::Store;
 
 // How many words a session has beside its store and its sets; heads.rt says what each of them is.
@@ -25,7 +27,7 @@ pub struct Answer {
     pub len: usize,
 }
 
-// "Numbers a session says no with", from 1 to 14.
+// The refusals, numbered from 1 to 14: "Numbers a session says no with".
 pub enum Refusal {
     Unconfigured,
     BadLimits,
@@ -65,22 +67,23 @@ pub fn number(r: Refusal) -> u16
     }
 }
 
-// Makes the memory a session that has heard nothing, whatever it held.
+// Makes the memory a session that has heard no record, whatever it held.
 pub fn fresh(
     head: &mut [u32; HEAD],
     sets: &mut [u32; Store::CAPACITY],
     places: &mut [u32; Store::WORDS],
 )
-    ensures session { λ _. ⌜ sessionIn (memory (now (head .exit)) (now (sets .exit)) (now (places .exit))) ≡ freshSession ⌝ }
+    ensures session { λ _. ⌜ sessionIn (memory (now (head .exit)) (now (sets .exit)) (now (places .exit)))
+        ≡ freshSession ⌝ }
     ensures normal { λ _. ⌜ NormalMemory (memory (now (head .exit)) (now (sets .exit)) (now (places .exit))) ⌝ }
     ensures blank { λ _. ⌜ now (sets .exit) ≡ replicate 16 0 ⌝ }
 {
-    heads::put_fresh(head);
+    words::put_fresh(head);
     *sets = [0; Store::CAPACITY];
     store::forget_all(places);
 }
 
-// One call: "14, 13, then" what the record's kind says.
+// One call, on a record: refused by 14, then by 13, and else answered by the call that its kind names.
 pub fn step(
     head: &mut [u32; HEAD],
     sets: &mut [u32; Store::CAPACITY],
@@ -88,7 +91,9 @@ pub fn step(
     msg: &[u8],
     reply: &mut [u8],
 ) -> Answer
-    ensures { λ r. ⌜ Permitted (memory (now (head .entry)) (now (sets .entry)) (now (places .entry))) (now (msg .entry)) (now (reply .entry)) r (memory (now (head .exit)) (now (sets .exit)) (now (places .exit))) (now (reply .exit)) ⌝ }
+    ensures { λ r. ⌜ Permitted
+        (memory (now (head .entry)) (now (sets .entry)) (now (places .entry))) (now (msg .entry)) (now (reply .entry))
+        r (memory (now (head .exit)) (now (sets .exit)) (now (places .exit))) (now (reply .exit)) ⌝ }
 {
     if reply.len() < Store::REPLY {
         return Answer {
@@ -96,15 +101,15 @@ pub fn step(
             len: 0,
         };
     }
-    match reading::kind_of(msg) {
-        1 => closing::configure(head, places, msg, reply),
-        2 => starting::begin(head, sets, places, msg, reply),
-        3 => listing::lists(head, sets, msg, reply),
-        4 => closing::finish(head, places, reply),
-        5 => closing::drain(head, places, reply),
-        6 => closing::discard(head, places, reply),
-        7 => closing::end(head, reply),
-        8 => closing::abandon(head, reply),
-        _ => writing::refuse(reply, 511, Refusal::Malformed),
+    match records::kind_of(msg) {
+        kinds::CONFIGURE => calls::configure(head, places, msg, reply),
+        kinds::BEGIN => begin::begin(head, sets, places, msg, reply),
+        kinds::LISTS => lists::lists(head, sets, msg, reply),
+        kinds::FINISH => calls::finish(head, places, reply),
+        kinds::DRAIN => calls::drain(head, places, reply),
+        kinds::DISCARD => calls::discard(head, places, reply),
+        kinds::END => calls::end(head, reply),
+        kinds::ABANDON => calls::abandon(head, reply),
+        _ => replies::refuse(reply, kinds::MALFORMED, Refusal::Malformed),
     }
 }

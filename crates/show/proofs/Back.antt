@@ -15,7 +15,7 @@ use Rattle.paper.proofs.ReadBack.{Fit, read-back}
 use Rattle.paper.proofs.WholeBack.{Known, whole-back}
 use Rattle.paper.proofs.Sound.{good-step}
 use Rattle.paper.proofs.Refusals.{reply-fits-after}
-use Rattle.paper.proofs.Demand3.{sound-after, sound-fresh}
+use Rattle.paper.proofs.LedgerTold.{sound-after, sound-fresh}
 use Rattle.paper.proofs.Unbroken.{knows}
 use Rattle.show.specs.Text.{ascii, decimal}
 use Rattle.show.specs.Lines.{replyText, saidText, lineOf}

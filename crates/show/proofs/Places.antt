@@ -12,6 +12,7 @@ use Rattle.wire.proofs.Flat.{flat-append}
 use Rattle.paper.specs.declared.Shown.{Shown}
 use Rattle.paper.specs.Words.{flat}
 use Rattle.paper.specs.Numbers.{u8, u16, u32, aSerial, aSurface, serialNos, surfaceNos}
+use Rattle.paper.specs.Kinds.{shownWidth}
 use Rattle.paper.specs.Ledger.{readWords, readSerials, readShown, readReleased, readTail}
 use Rattle.show.specs.Text.{ascii, decimal}
 use Rattle.show.specs.Lists.{behindComma, named, shownText, shownAt, tailText}
@@ -40,12 +41,12 @@ words-more zero l = refl
 words-more (suc i) l =
     ap (λ (ws : List ℕ). u32 l 0 ∷ ws) (words-more i (drop 4 l) ∙ ap (λ (x : ℕ). readWords i (drop 4 l) ++ (x ∷ [])) (u32-drop 4 l (4 * i) (4 * suc i) (omega arith)))
 
-shown-more : (i : ℕ) (l : List ℕ) → readShown (suc i) l ≡ readShown i l ++ (shownAt l (12 * i) ∷ [])
+shown-more : (i : ℕ) (l : List ℕ) → readShown (suc i) l ≡ readShown i l ++ (shownAt l (shownWidth * i) ∷ [])
 unfolding readShown
 shown-more zero l = refl
 shown-more (suc i) l =
     ap (λ (ws : List Shown). shownAt l 0 ∷ ws)
-    (shown-more i (drop 12 l) ∙ ap (λ (x : Shown). readShown i (drop 12 l) ++ (x ∷ [])) (shown-drop 12 l (12 * i) (12 * suc i) (omega arith)))
+    (shown-more i (drop 12 l) ∙ ap (λ (x : Shown). readShown i (drop 12 l) ++ (x ∷ [])) (shown-drop 12 l (shownWidth * i) (shownWidth * suc i) (omega arith)))
 
 flat-one : {A : Type 0} (f : A → List ℕ) (xs : List A) (x : A) → flat f (xs ++ (x ∷ [])) ≡ flat f xs ++ f x
 unfolding flat
@@ -58,12 +59,12 @@ words-one f l from i =
     ∙ flat-one f (readWords i (drop from l)) _
     ∙ ap (λ (x : ℕ). flat f (readWords i (drop from l)) ++ f x) (u32-drop from l (4 * i) (from + 4 * i) refl)
 
-pub shown-one : (f : Shown → List ℕ) (l : List ℕ) (from i : ℕ) → flat f (readShown (i + 1) (drop from l)) ≡ flat f (readShown i (drop from l)) ++ f (shownAt l (from + 12 * i))
+pub shown-one : (f : Shown → List ℕ) (l : List ℕ) (from i : ℕ) → flat f (readShown (i + 1) (drop from l)) ≡ flat f (readShown i (drop from l)) ++ f (shownAt l (from + shownWidth * i))
 shown-one f l from i =
     ap (λ (k : ℕ). flat f (readShown k (drop from l))) (add-one i)
     ∙ ap (flat f) (shown-more i (drop from l))
     ∙ flat-one f (readShown i (drop from l)) _
-    ∙ ap (λ (x : Shown). flat f (readShown i (drop from l)) ++ f x) (shown-drop from l (12 * i) (from + 12 * i) refl)
+    ∙ ap (λ (x : Shown). flat f (readShown i (drop from l)) ++ f x) (shown-drop from l (shownWidth * i) (from + shownWidth * i) refl)
 
 -- a list that is empty, and one that is not: the first, and the rest
 pub none-named : {A : Type 0} (name : List ℕ) (f : A → List ℕ) → named name f [] ≡ []
@@ -113,34 +114,34 @@ released-at l b n e = ap₂ readWords (u8-drop b l 0 b (omega arith) ∙ sym e) 
 past : (l : List ℕ) (b m : ℕ) → drop m (drop 1 (drop b l)) ≡ drop (b + 1 + m) l
 past l b m = ap (drop m) (drop-drop 1 b l) ∙ drop-drop m (b + 1) l
 
-module _ (l : List ℕ) (from h t r : ℕ) (eh : h ≡ u8 l from) (et : t ≡ u8 l (from + 1 + 12 * h)) (er : r ≡ u8 l (from + 1 + 12 * h + 1 + 4 * t)) where
+module _ (l : List ℕ) (from h t r : ℕ) (eh : h ≡ u8 l from) (et : t ≡ u8 l (from + 1 + shownWidth * h)) (er : r ≡ u8 l (from + 1 + shownWidth * h + 1 + 4 * t)) where
   count : u8 (drop from l) 0 ≡ h
   count = u8-drop from l 0 from (omega arith) ∙ sym eh
 
-  behind : drop (12 * u8 (drop from l) 0) (drop 1 (drop from l)) ≡ drop (from + 1 + 12 * h) l
-  behind = ap (λ (n : ℕ). drop (12 * n) (drop 1 (drop from l))) count ∙ past l from (12 * h)
+  behind : drop (shownWidth * u8 (drop from l) 0) (drop 1 (drop from l)) ≡ drop (from + 1 + shownWidth * h) l
+  behind = ap (λ (n : ℕ). drop (shownWidth * n) (drop 1 (drop from l))) count ∙ past l from (shownWidth * h)
 
-  thrown-count : u8 (drop (12 * u8 (drop from l) 0) (drop 1 (drop from l))) 0 ≡ t
-  thrown-count = ap (λ (x : List ℕ). u8 x 0) behind ∙ u8-drop (from + 1 + 12 * h) l 0 (from + 1 + 12 * h) (omega arith) ∙ sym et
+  thrown-count : u8 (drop (shownWidth * u8 (drop from l) 0) (drop 1 (drop from l))) 0 ≡ t
+  thrown-count = ap (λ (x : List ℕ). u8 x 0) behind ∙ u8-drop (from + 1 + shownWidth * h) l 0 (from + 1 + shownWidth * h) (omega arith) ∙ sym et
 
-  far : drop (4 * u8 (drop (12 * u8 (drop from l) 0) (drop 1 (drop from l))) 0) (drop 1 (drop (12 * u8 (drop from l) 0) (drop 1 (drop from l)))) ≡ drop (from + 1 + 12 * h + 1 + 4 * t) l
-  far = ap₂ (λ (n : ℕ) (x : List ℕ). drop (4 * n) (drop 1 x)) thrown-count behind ∙ past l (from + 1 + 12 * h) (4 * t)
+  far : drop (4 * u8 (drop (shownWidth * u8 (drop from l) 0) (drop 1 (drop from l))) 0) (drop 1 (drop (shownWidth * u8 (drop from l) 0) (drop 1 (drop from l)))) ≡ drop (from + 1 + shownWidth * h + 1 + 4 * t) l
+  far = ap₂ (λ (n : ℕ) (x : List ℕ). drop (4 * n) (drop 1 x)) thrown-count behind ∙ past l (from + 1 + shownWidth * h) (4 * t)
 
   handed-at : readTail (drop from l) .handed ≡ readShown h (drop (from + 1) l)
   unfolding readTail
   handed-at = ap₂ readShown count (drop-drop 1 from l)
 
-  thrown-at : serialNos (readTail (drop from l) .thrown) ≡ readWords t (drop (from + 1 + 12 * h + 1) l)
+  thrown-at : serialNos (readTail (drop from l) .thrown) ≡ readWords t (drop (from + 1 + shownWidth * h + 1) l)
   unfolding readTail
-  thrown-at = serials-back _ ∙ ap readReleased behind ∙ released-at l (from + 1 + 12 * h) t et
+  thrown-at = serials-back _ ∙ ap readReleased behind ∙ released-at l (from + 1 + shownWidth * h) t et
 
-  released-is : surfaceNos (readTail (drop from l) .released) ≡ readWords r (drop (from + 1 + 12 * h + 1 + 4 * t + 1) l)
+  released-is : surfaceNos (readTail (drop from l) .released) ≡ readWords r (drop (from + 1 + shownWidth * h + 1 + 4 * t + 1) l)
   unfolding readTail
-  released-is = surfaces-back _ ∙ ap readReleased far ∙ released-at l (from + 1 + 12 * h + 1 + 4 * t) r er
+  released-is = surfaces-back _ ∙ ap readReleased far ∙ released-at l (from + 1 + shownWidth * h + 1 + 4 * t) r er
 
   -- the three parts of a tail, each at its place
-  pub tail-at : tailText (readTail (drop from l)) ≡ named (ascii " handed=") shownText (readShown h (drop (from + 1) l)) ++ named (ascii " thrown=") decimal (readWords t (drop (from + 1 + 12 * h + 1) l)) ++ named (ascii " released=") decimal (readWords r (drop (from + 1 + 12 * h + 1 + 4 * t + 1) l))
+  pub tail-at : tailText (readTail (drop from l)) ≡ named (ascii " handed=") shownText (readShown h (drop (from + 1) l)) ++ named (ascii " thrown=") decimal (readWords t (drop (from + 1 + shownWidth * h + 1) l)) ++ named (ascii " released=") decimal (readWords r (drop (from + 1 + shownWidth * h + 1 + 4 * t + 1) l))
   unfolding tailText
   tail-at =
       ap₂ (λ (x : List Shown) (y : List ℕ). named (ascii " handed=") shownText x ++ named (ascii " thrown=") decimal y ++ named (ascii " released=") decimal (surfaceNos (readTail (drop from l) .released))) handed-at thrown-at
-      ∙ ap (λ (z : List ℕ). named (ascii " handed=") shownText (readShown h (drop (from + 1) l)) ++ named (ascii " thrown=") decimal (readWords t (drop (from + 1 + 12 * h + 1) l)) ++ named (ascii " released=") decimal z) released-is
+      ∙ ap (λ (z : List ℕ). named (ascii " handed=") shownText (readShown h (drop (from + 1) l)) ++ named (ascii " thrown=") decimal (readWords t (drop (from + 1 + shownWidth * h + 1) l)) ++ named (ascii " released=") decimal z) released-is

@@ -1,7 +1,7 @@
 -- Turn after turn: all that was read so far is whole replies, with their lines, and what waits; where the run ends because no more is read, no whole reply waits.
 use Prim.Native.Nat.{ℕ}
 use mathlib.Core.Path.{_≡_, refl, sym, ap, ap₂, _∙_}
-use mathlib.Core.List.{List, [], _∷_, _++_, append-nil, append-assoc}
+use mathlib.Core.List.{List, [], _++_, append-nil, append-assoc}
 use mathlib.Core.Bool.{true, false, not}
 use native.Mathlib.Omega.{arith}
 use lib.Dec.{eqb}
@@ -9,28 +9,16 @@ use lib.ListN.{take}
 use borrow.Author.Tests.{eqb-true, eqb-false, ltb-false}
 use Rattle.paper.specs.Words.{allB}
 use Rattle.paper.proofs.Bools.{split, not-both}
-use Rattle.framing.specs.Cut.{Parts, sizeOf, joined, isWhole, cut, parts}
-use Rattle.framing.specs.Turns.{brought, Ran, through}
-use Rattle.framing.proofs.Cutting.{one-cut, joined-append, all-append}
-use Rattle.framing.proofs.Keeping.{none-brought, read-so-far}
-use Rattle.framing.proofs.Laying.{put-front}
-use Rattle.framing.proofs.Running.{Reached}
-use Rattle.show.specs.Lines.{lineOf, following}
+use Rattle.format.specs.Cut.{Parts, sizeOf, joined, isWhole, cut, parts}
+use Rattle.stream.specs.Turns.{through}
+use Rattle.format.proofs.Cutting.{one-cut, joined-on, all-append}
+use Rattle.stream.proofs.Keeping.{unmoved}
+use Rattle.stream.proofs.Laying.{put-front}
+use Rattle.stream.proofs.Running.{Reached, by-turns}
 use Rattle.show.specs.Stream.{linesOf, numberAfter}
 use Rattle.show.specs.declared.After.{After}
+use Rattle.show.proofs.Lining.{lines-append, number-append}
 use Rattle.show.specs.Turns.{endLine, Turned, Stand, waiting, readIn, writtenIn, Starts, Turns, Shows}
-
--- ---- some replies, and some behind them
-
-lines-append : (n : ℕ) (rs qs : List (List ℕ)) → linesOf n (rs ++ qs) ≡ linesOf n rs ++ linesOf (numberAfter n rs) qs
-unfolding linesOf numberAfter
-lines-append n [] qs = refl
-lines-append n (r ∷ rs) qs = ap (λ (x : List ℕ). lineOf n r ++ x) (lines-append (following n) rs qs) ∙ sym (append-assoc (lineOf n r) (linesOf (following n) rs) _)
-
-number-append : (n : ℕ) (rs qs : List (List ℕ)) → numberAfter n (rs ++ qs) ≡ numberAfter (numberAfter n rs) qs
-unfolding numberAfter
-number-append n [] qs = refl
-number-append n (r ∷ rs) qs = number-append (following n) rs qs
 
 -- ---- one turn
 
@@ -68,14 +56,7 @@ unfolding joined
 end-waits {held = held} {before = before} {after = after} {r = r} t z m =
     let k = t .reads z in
     let n = ltb-false held (r .held) (sym (k .2) ∙ m) in
-    ap sizeOf (same (k .0) (none-brought held (r .held) after (omega arith))) ∙ z
-  where
-    same : t .read ≡ [] → brought held (r .held) after ≡ [] → take (r .held) after ≡ take held before
-    same a b =
-        sym (ap (λ (l : List (List ℕ)). joined l ++ take (r .held) after) a)
-        ∙ sym (t .kept)
-        ∙ ap (λ (l : List ℕ). take held before ++ l) b
-        ∙ append-nil (take held before)
+    ap sizeOf (unmoved held (r .held) before after (omega arith) (t .kept ∙ ap (λ (l : List (List ℕ)). joined l ++ take (r .held) after) (k .0))) ∙ z
 
 -- ---- so far
 
@@ -101,8 +82,7 @@ module _ {R W : List ℕ} {b s : Stand} (g : SoFar R W b) (t : Turned (b .after 
 
   all-kept : R ++ readIn b s ≡ joined all-seen ++ waiting s
   unfolding all-seen
-  all-kept =
-      read-so-far (joined (g .seen)) (waiting b) (readIn b s) (joined (t .read)) (waiting s) (g .kept) (t .kept) ∙ ap (λ (l : List ℕ). l ++ waiting s) (sym (joined-append (g .seen) (t .read)))
+  all-kept = joined-on (g .seen) (t .read) (waiting b) (readIn b s) (waiting s) (g .kept) (t .kept)
 
   all-number : s .after .next ≡ numberAfter 1 all-seen
   unfolding all-seen
@@ -128,11 +108,6 @@ module _ {R W : List ℕ} {b s : Stand} (g : SoFar R W b) (t : Turned (b .after 
         number = all-number;
       }
 
-so-far : (turns : List Stand) (s : Stand) → Ran Starts Turns turns s → s .after .more ≡ true → SoFar (through readIn turns s) (through writtenIn turns s) s
-unfolding Ran through
-so-far [] s g m = nothing-seen g
-so-far (b ∷ earlier) s g m = seen-on (so-far earlier b (g .0) (g .1 .0)) (g .1 .1) m
-
 -- ---- the end
 
 abbrev Complete : List ℕ → List ℕ → Stand → Type 0
@@ -149,10 +124,16 @@ ended {R} {W} {b} {s} g t m u =
       all-number g t ∙ ap (λ (x : Parts). numberAfter 1 (x .whole)) (sym p),
     )
 
-comes-to-end : (turns : List Stand) (s : Stand) → Ran Starts Turns turns s → s .after .more ≡ false → s .after .unwritten ≡ false → Complete (through readIn turns s) (through writtenIn turns s) s
-unfolding Ran through
-comes-to-end [] s g m u = not-both (s .after .more) (g .2) m
-comes-to-end (b ∷ earlier) s g m u = ended (so-far earlier b (g .0) (g .1 .0)) (g .1 .1) m u
+-- while the run goes on, and where it ends because no more is read
+record Told (R W : List ℕ) (s : Stand) : Type 0 where
+  on : s .after .more ≡ true → SoFar R W s
+  end : s .after .more ≡ false → s .after .unwritten ≡ false → Complete R W s
+
+told-none : (s : Stand) → Starts s → Told [] [] s
+told-none s b = record { on = λ _. nothing-seen b; end = λ m u. not-both (s .after .more) (b .2) m }
+
+told-on : (R W : List ℕ) (b s : Stand) → Told R W b → Turns b s → Told (R ++ readIn b s) (W ++ writtenIn b s) s
+told-on R W b s g t = let f = g .on (t .0) in record { on = seen-on f (t .1); end = ended f (t .1) }
 
 -- THE WHOLE RUN
 pub shows : (s : Stand) → Reached Starts Turns s → Shows s
@@ -164,5 +145,5 @@ shows s g =
       ran = g .ran;
       read = refl;
       handed = refl;
-      all = comes-to-end (g .turns) s (g .ran);
+      all = by-turns readIn writtenIn Told told-none told-on (g .turns) s (g .ran) .end;
     }

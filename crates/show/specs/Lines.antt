@@ -6,6 +6,7 @@ use lib.ListN.{length, getD, drop}
 use lib.Dec.{ltb}
 use Rattle.paper.specs.declared.Serial.{Serial}
 use Rattle.paper.specs.Numbers.{u8, serialNos}
+use Rattle.paper.specs.Kinds.{replyOffset, restPlace, wordWidth, begunMembers, flagsPlace}
 use Rattle.paper.specs.Records.{kindOf}
 use Rattle.paper.specs.Output.{Tail}
 use Rattle.paper.specs.Replies.{Begun, Reply}
@@ -14,7 +15,7 @@ use Rattle.paper.specs.WholeReply.{wholeReply}
 use Rattle.show.specs.Text.{ascii, decimal, integer, serialText}
 use Rattle.show.specs.Lists.{named, tailText, setsText}
 
--- the record kinds, by number; a question mark for any other, as 511 has
+-- the record kinds, by number; a question mark for any other, as the reply to a 13 has
 abbrev pub kindWords : List (List ℕ)
 kindWords =
     ascii "?" ∷ ascii "configure" ∷ ascii "begin" ∷ ascii "lists" ∷ ascii "finish" ∷ ascii "drain" ∷ ascii "discard" ∷ ascii "end" ∷ ascii "abandon" ∷ []
@@ -58,7 +59,7 @@ flagsText flags noRasl output valid noPrior =
 
 -- a refusal: the kind of the record, the number and its word
 unfoldable pub refusedText : ℕ → ℕ → List ℕ
-refusedText kind n = ascii "refused " ++ kindWord (kind - 256) ++ ascii " " ++ decimal n ++ ascii " " ++ refusalWord n
+refusedText kind n = ascii "refused " ++ kindWord (kind - replyOffset) ++ ascii " " ++ decimal n ++ ascii " " ++ refusalWord n
 
 unfoldable pub doneText : ℕ → Tail → List ℕ
 doneText kind t = ascii "done " ++ kindWord kind ++ tailText t
@@ -80,13 +81,13 @@ replyText flags (Reply.Listed l0 l1) = listedText l0 l1
 
 -- an accepted begin, by its bytes
 abbrev pub begunAt : List ℕ → List ℕ
-begunAt bs = toldText (u8 bs 10) (readBegun (drop 6 bs)) ++ setsText (readBegun (drop 6 bs) .sets) ++ tailText (readTail (drop (4 * setWords (drop 6 bs)) (drop 14 (drop 6 bs))))
+begunAt bs = toldText (u8 bs flagsPlace) (readBegun (drop restPlace bs)) ++ setsText (readBegun (drop restPlace bs) .sets) ++ tailText (readTail (drop (wordWidth * setWords (drop restPlace bs)) (drop begunMembers (drop restPlace bs))))
 
 unfoldable pub damagedText : List ℕ → List ℕ
 damagedText bs = ascii "damaged reply of " ++ decimal (length bs) ++ ascii " bytes, kind " ++ decimal (kindOf bs)
 
 unfoldable pub saidText : List ℕ → List ℕ
-saidText bs = cond (wholeReply bs) (replyText (u8 bs 10) (readReply bs)) (damagedText bs)
+saidText bs = cond (wholeReply bs) (replyText (u8 bs flagsPlace) (readReply bs)) (damagedText bs)
 
 -- The line of the reply that has this number in its stream
 unfoldable pub lineOf : ℕ → List ℕ → List ℕ

@@ -1,9 +1,10 @@
 -- Lists and tails as text: tools/records.py's form.
-use Prim.Native.Nat.{ℕ, _+_}
+use Prim.Native.Nat.{ℕ, _+_, _*_}
 use mathlib.Core.List.{List, [], _∷_, _++_}
 use Rattle.paper.specs.declared.Shown.{Shown}
 use Rattle.paper.specs.Words.{flat}
 use Rattle.paper.specs.Numbers.{u32, i32, aSerial, aSurface, serialNos, surfaceNos}
+use Rattle.paper.specs.Kinds.{wordWidth}
 use Rattle.paper.specs.Sets.{Sets}
 use Rattle.paper.specs.Output.{Tail}
 use Rattle.show.specs.Text.{ascii, decimal, integer, serialText}
@@ -23,7 +24,7 @@ shownText p = decimal (p .serial .0) ++ ascii ":" ++ decimal (p .surface .0) ++ 
 
 -- the picture handed out that stands at a place of a reply
 abbrev pub shownAt : List ℕ → ℕ → Shown
-shownAt r at = record { serial = aSerial (u32 r at); surface = aSurface (u32 r (at + 4)); poc = i32 r (at + 8) }
+shownAt r at = record { serial = aSerial (u32 r at); surface = aSurface (u32 r (at + wordWidth)); poc = i32 r (at + 2 * wordWidth) }
 
 unfoldable pub tailText : Tail → List ℕ
 tailText t =

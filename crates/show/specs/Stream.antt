@@ -5,8 +5,8 @@ use mathlib.Core.List.{List, [], _∷_, _++_}
 use mathlib.Core.Bool.{true}
 use lib.ListN.{length, take}
 use Rattle.paper.specs.Words.{allB}
-use Rattle.framing.specs.Cut.{joined, isWhole}
-use Rattle.framing.specs.Laid.{laidAt, Puts}
+use Rattle.format.specs.Cut.{joined, isWhole}
+use Rattle.stream.specs.Laid.{laidAt, Puts}
 use Rattle.show.specs.Lines.{lineOf, following}
 
 -- the lines of replies, the first of which has this number, and the number behind the last

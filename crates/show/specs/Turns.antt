@@ -1,14 +1,15 @@
 -- What a turn of the program does, and what its whole run does: a line for each reply of a stream.
-use Prim.Native.Nat.{ℕ, _≤_, _<_}
+use Prim.Native.Nat.{ℕ, _<_}
 use mathlib.Core.Path.{_≡_}
 use mathlib.Core.List.{List, [], _++_}
 use mathlib.Core.Bool.{Bool, true, false, not, cond, _||_}
 use lib.Dec.{ltb, eqb}
 use lib.ListN.{length, take}
 use Rattle.paper.specs.Words.{allB}
-use Rattle.framing.specs.Cut.{sizeOf, joined, isWhole, cut, parts}
-use Rattle.framing.specs.Laid.{Puts}
-use Rattle.framing.specs.Turns.{brought, Ran, through}
+use Rattle.format.specs.Cut.{sizeOf, joined, isWhole, cut, parts}
+use Rattle.stream.specs.declared.Read.{Read}
+use Rattle.stream.specs.Laid.{Puts}
+use Rattle.stream.specs.Turns.{brought, Ran, through}
 use Rattle.show.specs.Lines.{restOf}
 use Rattle.show.specs.Stream.{linesOf, numberAfter}
 use Rattle.show.specs.declared.After.{After}
@@ -23,19 +24,14 @@ endLine r = cond (r .more || r .unread || eqb (r .held) 0) [] (restOf (r .next) 
 
 -- the end of the input
 pub record Last (next held : ℕ) (written : List ℕ) (r : After) (output : List ℕ) : Type 0 where
-  pub same : (r .next ≡ next) × (r .held ≡ held) × (r .more ≡ false)
+  pub same : (r .next ≡ next) × (r .held ≡ held) × (r .more ≡ false) × (r .unread ≡ false)
   pub line : Puts (r .made) (endLine r) written output
 
--- One read: what waits is kept, in front of what was read; the run goes on just where something was, and else ends with the last line; nothing was where the
--- read failed
-pub record Fed (next held : ℕ) (before written : List ℕ) (r : After) (after output : List ℕ) : Type 0 where
-  pub within : r .held ≤ length after
-  pub grows : held ≤ r .held
-  pub kept : take held after ≡ take held before
-  pub same-next : r .next ≡ next
-  pub line : Puts (r .made) (endLine r) written output
-  pub goes-on : r .more ≡ ltb held (r .held)
-  pub failed : r .unread ≡ true → r .more ≡ false
+-- what a turn gives that only read: the run goes on just where something was read, and else ends with the last line
+pub record FedBy (next held : ℕ) (r : Read) (written : List ℕ) (a : After) (output : List ℕ) : Type 0 where
+  pub same : (a .next ≡ next) × (a .held ≡ r .held) × (a .unread ≡ r .failed)
+  pub goes-on : a .more ≡ ltb held (r .held)
+  pub line : Puts (a .made) (endLine a) written output
 
 -- One turn. `read` are the replies whose lines it makes. The first `made` bytes of the output are what it hands to `write_all`, and behind them the output is
 -- as it was
@@ -51,6 +47,8 @@ pub record Turned (n held : ℕ) (before written : List ℕ) (r : After) (after 
   -- it reads on only where no whole reply waits, so that none is left behind without its line; the run goes on just where something was read, which a read
   -- that fails never does
   pub reads : sizeOf (take held before) ≡ 0 → (read ≡ []) × Puts (r .made) (endLine r) written output × (r .more ≡ ltb held (r .held)) × (r .unread ≡ true → r .more ≡ false)
+  -- behind a reply that is not whole there is room, so no read fails for want of it
+  pub room : sizeOf (take held before) ≡ 0 → held < length before
 
 -- where a run stands after a turn: what the turn gave, and the two buffers
 pub record Stand : Type 0 where

@@ -1,17 +1,19 @@
-// Replies as text: "writes the replies" of the program `replay` on standard input, one readable line for each on standard output. A line is written when
-// all of its reply is there. A last reply that is incomplete gets a line that says so.
+// Replies as text: "writes the replies" of the program `replay` on standard input, one readable line for each on
+// standard output. A line is written when all of its reply is there. A last reply that is incomplete gets a line that
+// says so.
 mod lists;
 mod replies;
 mod text;
 
+use stream::Read;
 ghost use mathlib.Core.Path.{_≡_};
 ghost use Prim.Native.Nat.{_+_, _-_, _≤_, _<_};
 ghost use lib.ListN.{length, drop};
 ghost use Rattle.wire.specs.Bytes.{over};
 ghost use Rattle.show.specs.Lines.{following};
-ghost use Rattle.framing.specs.Cut.{sizeOf};
+ghost use Rattle.format.specs.Cut.{sizeOf};
 ghost use Rattle.show.specs.Stream.{Added, Lines};
-ghost use Rattle.show.specs.Turns.{stoppedAt, Last, Fed, Turned, standing, Shows};
+ghost use Rattle.show.specs.Turns.{stoppedAt, Last, FedBy, Turned, standing, Shows};
 
 // A reply has at most 65,539 bytes, so there is always room to read on behind one that is not whole yet.
 const INPUT: usize = 131072;
@@ -29,8 +31,9 @@ struct Lined {
     made: usize,
 }
 
-// The number of the next reply, how many bytes wait at the start of the input buffer, how many bytes of lines were handed over to be written, whether the
-// run goes on, and whether standard input could not be read or standard output not be written.
+// The number of the next reply, how many bytes wait at the start of the input buffer, how many bytes of lines were
+// handed over to be written, whether the run goes on, and whether standard input could not be read or standard output
+// not be written.
 struct After {
     next: u64,
     held: usize,
@@ -58,14 +61,16 @@ fn line_at(number: u64, reply: &[u8], out: &mut [u8], made: usize) -> usize
 // The lines of the whole replies at the start of these bytes, one after the other, while there is room for a line.
 fn lines(number: u64, bytes: &[u8], out: &mut [u8]) -> Lined
     ensures within { λ r. ⌜ (r .taken ≤ length (now (bytes .entry))) × (r .made ≤ length (now (out .exit))) ⌝ }
-    ensures lines { λ r. ⌜ Lines number (now (bytes .entry)) (r .next) (r .taken) (r .made) (now (out .entry)) (now (out .exit)) ⌝ }
-    ensures all { λ r. ⌜ (r .made + 28457 ≤ length (now (out .exit)) → sizeOf (drop (r .taken) (now (bytes .entry))) ≡ 0) ⌝ }
+    ensures lines { λ r. ⌜ Lines number (now (bytes .entry)) (r .next) (r .taken) (r .made) (now (out .entry))
+        (now (out .exit)) ⌝ }
+    ensures all { λ r. ⌜ (r .made + 28457 ≤ length (now (out .exit))
+        → sizeOf (drop (r .taken) (now (bytes .entry))) ≡ 0) ⌝ }
 {
     let mut next = number;
     let mut taken = 0;
     let mut made = 0;
     while made + LINE <= out.len() {
-        let n = framing::size(&bytes[taken..]);
+        let n = format::size(&bytes[taken..]);
         if n == 0 {
             return Lined { next, taken, made };
         }
@@ -111,30 +116,27 @@ fn stopped(next: u64, held: usize, unread: bool) -> After
     }
 }
 
-// One read behind the `held` bytes that wait, with room for one byte at least: none is read at the end of the input, or where it can't be read, and either
-// ends the run.
-fn read_on(next: u64, held: usize, input: &mut [u8], output: &mut [u8]) -> After
-    requires { ⌜ held < length (now input) ⌝ }
+// What a turn gives that only read: the run goes on where something was read, and else ends, with the last line unless
+// the read failed.
+fn fed(next: u64, held: usize, r: Read, output: &mut [u8]) -> After
     requires { ⌜ 28457 ≤ length (now output) ⌝ }
-    ensures { λ r. ⌜ Fed next held (now (input .entry)) (now (output .entry)) r (now (input .exit)) (now (output .exit)) ⌝ }
+    ensures { λ a. ⌜ FedBy next held r (now (output .entry)) a (now (output .exit)) ⌝ }
 {
-    let rest = &mut input[held..];
-    let got = libc::read(0, rest);
-    let n = io::count(got, rest);
-    if got < 0 {
-        return stopped(next, held, true);
+    let now = r.held;
+    if held < now {
+        return After {
+            next,
+            held: now,
+            made: 0,
+            more: true,
+            unread: r.failed,
+            unwritten: false,
+        };
     }
-    if n == 0 {
-        return last(next, held, output);
+    if r.failed {
+        return stopped(next, now, true);
     }
-    After {
-        next,
-        held: held + n,
-        made: 0,
-        more: true,
-        unread: false,
-        unwritten: false,
-    }
+    last(next, now, output)
 }
 
 // Writes the lines of what is whole; reads on only where nothing is whole, so that no line waits for input.
@@ -142,16 +144,18 @@ fn turn(next: u64, held: usize, input: &mut [u8], output: &mut [u8]) -> After
     requires { ⌜ held ≤ length (now input) ⌝ }
     requires { ⌜ (65539 ≤ length (now input)) × (28457 ≤ length (now output)) ⌝ }
     ensures { λ r. ⌜ r .held ≤ length (now (input .exit)) ⌝ }
-    ensures turned { λ r. ⌜ Turned next held (now (input .entry)) (now (output .entry)) r (now (input .exit)) (now (output .exit)) ⌝ }
+    ensures turned { λ r. ⌜ Turned next held (now (input .entry)) (now (output .entry)) r (now (input .exit))
+        (now (output .exit)) ⌝ }
 {
     let l = lines(next, &input[..held], output);
     let taken = l.taken;
     if taken == 0 {
-        return read_on(next, held, input, output);
+        let r = stream::read_on(0, held, input);
+        return fed(next, held, r, output);
     }
     let made = l.made;
     let more = io::write_all(1, &output[..made]);
-    framing::shift(input, taken, held);
+    stream::shift(input, taken, held);
     After {
         next: l.next,
         held: held - taken,

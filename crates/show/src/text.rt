@@ -25,7 +25,8 @@ pub(crate) fn put(d: &mut [u8], at: usize, word: &[u8]) -> usize
 // A word, or nothing.
 pub(crate) fn put_if(d: &mut [u8], at: usize, on: bool, word: &[u8]) -> usize
     requires { ⌜ at + length (now word) ≤ length (now d) ⌝ }
-    ensures { λ r. ⌜ Wrote (now (d .entry)) at (cond on (now (word .entry)) []) (length (now (word .entry))) r (now (d .exit)) ⌝ }
+    ensures { λ r. ⌜ Wrote (now (d .entry)) at (cond on (now (word .entry)) []) (length (now (word .entry))) r
+        (now (d .exit)) ⌝ }
 {
     if on { put(d, at, word) } else { at }
 }

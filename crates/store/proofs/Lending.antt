@@ -15,7 +15,7 @@ use Rattle.store.specs.Places.{storedIn}
 use Rattle.store.specs.Runs.{filled, changed, memberFor, membersAt, marking, Settles}
 use Rattle.store.specs.declared.Store.{Store}
 use Rattle.store.specs.declared.pictures.Sought.{Sought}
-use Rattle.store.specs.declared.setting.Settled.{Settled}
+use Rattle.store.specs.declared.sets.Settled.{Settled}
 
 module _ (s : Store) (ps : List Picture) (lent : ps ≡ storedIn s) (a b : Found) where
   alike : (f : Picture → Bool) → a ≡ foundOf f (storedIn s) → b ≡ foundOf f ps → a ≡ b

@@ -1,6 +1,6 @@
 pub mod Shelf
 pub mod Tidy
-pub mod Searches
+pub mod SearchLaws
 pub mod RawPart
 pub mod Walks
 pub mod Moves
@@ -13,7 +13,7 @@ pub mod Ends
 pub mod Saving
 pub mod Fetched
 pub mod Filling
-pub mod Marks
+pub mod MarkLaws
 pub mod Arrays
 pub mod Behind
 pub mod Settling

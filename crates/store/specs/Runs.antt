@@ -19,8 +19,8 @@ use Rattle.store.specs.Walks.{blank, passing, soughtFor, foundOf, member
 use Rattle.store.specs.Places.{front}
 use Rattle.store.specs.declared.Sizes.{Sizes}
 use Rattle.store.specs.declared.Derived.{Derived}
-use Rattle.store.specs.declared.setting.Settled.{Settled}
-use Rattle.store.specs.declared.setting.Runs.{Runs}
+use Rattle.store.specs.declared.sets.Settled.{Settled}
+use Rattle.store.specs.declared.sets.Runs.{Runs}
 
 -- the wish at a place: its POC, and in the byte beside it bit 0 used, bit 1 whole
 abbrev pub wishAt : List ℤ → List ℕ → ℕ → Wish

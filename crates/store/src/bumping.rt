@@ -7,7 +7,8 @@ ghost use Rattle.paper.specs.Output.{andThen, shown};
 ghost use Rattle.paper.specs.State.{isMarked};
 ghost use Rattle.store.specs.Places.{front};
 ghost use Rattle.store.specs.Tails.{GoodReleased, startedIn, HoldsMoved};
-ghost use Rattle.store.specs.Bumps.{Scans, nothingSeen, lowerBy, seenBy, dueBy, dueScan, dueNow, alwaysBy, latencyBy, turnsBy, Bumps};
+ghost use Rattle.store.specs.Bumps.{Scans, nothingSeen, lowerBy, seenBy, dueBy, dueScan, dueNow, alwaysBy};
+ghost use Rattle.store.specs.Bumps.{latencyBy, turnsBy, Bumps};
 use crate::Handed;
 use crate::Moved;
 use crate::Released;
@@ -33,8 +34,8 @@ pub struct Scan {
     pub lowest: Lowest,
 }
 
-// How long pictures are handed out: while one waits, each leaving even if marked; or while one is due, with the buffering test
-// or without it.
+// How long pictures are handed out: while one waits, each leaving even if marked; or while one is due, with the
+// buffering test or without it.
 pub enum Rule {
     All,
     Due(Limits, bool),
@@ -97,7 +98,8 @@ fn seen(c: Scan, i: usize, p: Picture, latency: u32) -> Scan
     }
 }
 
-// The waiting picture with the lowest POC, the earlier stored one on a tie, and what the tests of due ask for, of the first n.
+// The waiting picture with the lowest POC, the earlier stored one on a tie, and what the tests of due ask for, of the
+// first n.
 pub(crate) fn find_lowest_poc_for_bumping(
     places: [Picture; Store::CAPACITY],
     n: usize,
@@ -125,7 +127,8 @@ fn needs_additional_bumping(c: Scan, l: Limits) -> bool
     over | (!(latency == 0) & c.late)
 }
 
-// Whether a picture is to be handed out, if one waits: by the rule's tests, with the buffering test where it asks for it (C.5.2.2).
+// Whether a picture is to be handed out, if one waits: by the rule's tests, with the buffering test where it asks for
+// it (C.5.2.2).
 fn needs_bumping(rule: Rule, c: Scan, stored: usize) -> bool
     ensures { λ r. ⌜ r ≡ dueScan rule c stored ⌝ }
 {
@@ -186,7 +189,8 @@ fn shown_of(p: Picture) -> Shown
     }
 }
 
-// The pictures of a serial are handed out, of the first n ("bumping", C.5.2.4): they leave, or stay and no longer wait. The walk sees the others.
+// The pictures of a serial are handed out, of the first n ("bumping", C.5.2.4): they leave, or stay and no longer wait.
+// The walk sees the others.
 fn bump(
     ps: [Picture; Store::CAPACITY],
     n: usize,
@@ -220,8 +224,8 @@ fn bump(
     }
 }
 
-// Pictures are handed out by a rule while one waits and is due, from what a walk over the first n found on: as many turns as are stored,
-// which is enough, since a turn hands one out or is the last (C.5.2.2, C.5.2.3).
+// Pictures are handed out by a rule while one waits and is due, from what a walk over the first n found on: as many
+// turns as are stored, which is enough, since a turn hands one out or is the last (C.5.2.2, C.5.2.3).
 pub(crate) fn bump_as_needed(
     ps: [Picture; Store::CAPACITY],
     n: usize,

@@ -1,5 +1,5 @@
-// The forms by reference: searches over a lent run of picture records, and marks changed in the record where it stands. Each is equal to
-// its form by value in `searching`, `marking` and `setting`; step 4 of begin goes through these.
+// The forms by reference: searches over a lent run of picture records, and marks changed in the record where it stands.
+// Each is equal to its form by value in `searches`, `marks` and `sets`; step 4 of begin goes through these.
 ghost use mathlib.Core.Path.{_≡_};
 ghost use Prim.Native.Nat.{_+_, _^_, _≤_, _<_, min};
 ghost use lib.ListN.{set, getD};
@@ -9,12 +9,12 @@ ghost use Rattle.paper.specs.Sets.{marked};
 ghost use Rattle.store.specs.Walks.{anyAt, lowAt, shortAt, passing, foundOf, soughtFor, blank};
 ghost use Rattle.store.specs.Runs.{memberFor, filled, membersAt, marking, changed, Settles};
 use crate::Store;
-use crate::marking::is_among;
+use crate::marks::is_among;
 use crate::pictures::Sought;
 use crate::pictures::passes;
-use crate::searching::member_of;
-use crate::searching::sought_for;
-use crate::setting::Settled;
+use crate::searches::member_of;
+use crate::searches::sought_for;
+use crate::sets::Settled;
 use paper::Found;
 use paper::Mark;
 use paper::Picture;
@@ -42,7 +42,8 @@ pub fn find_ref_by_poc_in(ps: &[Picture], poc: i32) -> Found
     first_in(ps, Sought::AnyAt(poc))
 }
 
-// The first picture of a lent run with any mark and a POC of these low k bits (8.3.2, a long-term picture without its MSB).
+// The first picture of a lent run with any mark and a POC of these low k bits (8.3.2, a long-term picture without its
+// MSB).
 pub fn find_ref_by_poc_masked_in(ps: &[Picture], k: u8, low: i32) -> Found
     ensures { λ r. ⌜ r ≡ foundOf (lowAt (2 ^ (min k 16)) low) (now (ps .entry)) ⌝ }
 {
@@ -65,7 +66,8 @@ fn sought_at(
     at: usize,
 ) -> Sought
     requires { ⌜ at < 16 ⌝ }
-    ensures { λ r. ⌜ r ≡ soughtFor long k (getD (now (pocs .entry)) at (pos 0)) (bit 1 (getD (now (hows .entry)) at 0)) ⌝ }
+    ensures { λ r. ⌜ r ≡ soughtFor long k (getD (now (pocs .entry)) at (pos 0))
+        (bit 1 (getD (now (hows .entry)) at 0)) ⌝ }
 {
     sought_for(long, k, pocs[at], hows[at])
 }
@@ -82,7 +84,8 @@ fn find_members_in(
     found: &mut [Serial; Store::CAPACITY],
 )
     requires { ⌜ from + n ≤ 16 ⌝ }
-    ensures { λ _. ⌜ now (found .exit) ≡ filled (memberFor long k (now (ps .entry)) (now (pocs .entry)) (now (hows .entry))) from n (now (found .entry)) ⌝ }
+    ensures { λ _. ⌜ now (found .exit) ≡ filled
+        (memberFor long k (now (ps .entry)) (now (pocs .entry)) (now (hows .entry))) from n (now (found .entry)) ⌝ }
 {
     let mut i: usize = 0;
     while i < n {
@@ -110,7 +113,8 @@ fn mark_at(ps: &mut [Picture; Store::CAPACITY], i: usize, m: Mark)
     set_mark(&mut ps[i], m);
 }
 
-// Of the first m pictures those among n members from a place on (`inside`), or those not among them, get a mark where they stand.
+// Of the first m pictures those among n members from a place on (`inside`), or those not among them, get a mark where
+// they stand.
 fn mark_where_in(
     ps: &mut [Picture; Store::CAPACITY],
     m: usize,

@@ -1,24 +1,25 @@
-// Layer 2, the stored pictures: searches, marks, handing out, removal and emptying (8.3.2, C.5.2). It knows nothing of records and
-// replies. A store is sixteen picture records and how many are used; it is worked on by value. Only `words` knows the words that a host
-// lends a store in: any words may be given, a length over 16 counts as 16, and a picture is told by its serial.
+// Layer 2, the stored pictures: searches, marks, handing out, removal and emptying (8.3.2, C.5.2). It knows nothing of
+// records and replies. A store is sixteen picture records and how many are used; it is worked on by value. Only `words`
+// knows the words that a host lends a store in: any words may be given, a length over 16 counts as 16, and a picture is
+// told by its serial.
 mod bumping;
-mod ending;
-mod leaving;
 mod lent;
-mod marking;
+mod marks;
+mod operations;
 mod pictures;
-mod searching;
-mod setting;
+mod removal;
+mod searches;
+mod sets;
 mod words;
 
-pub use ending::abandon;
 pub use lent::find_ref_by_poc_in;
 pub use lent::find_ref_by_poc_masked_in;
 pub use lent::find_short_term_ref_by_poc_in;
 pub use lent::set_mark;
-pub use searching::find_ref_by_poc;
-pub use searching::find_ref_by_poc_masked;
-pub use searching::find_short_term_ref_by_poc;
+pub use operations::abandon;
+pub use searches::find_ref_by_poc;
+pub use searches::find_ref_by_poc_masked;
+pub use searches::find_short_term_ref_by_poc;
 pub use words::derive_and_mark_rps;
 pub use words::discard;
 pub use words::drain;
@@ -83,7 +84,8 @@ pub struct Sizes {
     pub lt_foll: usize,
 }
 
-// A store after step 4 of begin, and the sets: first StCurrBefore, StCurrAfter and LtCurr, then StFoll and LtFoll, one behind the other.
+// A store after step 4 of begin, and the sets: first StCurrBefore, StCurrAfter and LtCurr, then StFoll and LtFoll, one
+// behind the other.
 pub struct Derived {
     pub store: Store,
     pub first: [Serial; Store::CAPACITY],

@@ -20,8 +20,8 @@ use paper::Surface;
 // Where a count stops rising.
 const COUNT_LIMIT: u32 = 2147483647;
 
-// What a walk over the stored pictures looks for: any mark and this POC; any mark and a POC of these low k bits; a short-term
-// picture of this POC; one that holds this surface.
+// What a walk over the stored pictures looks for: any mark and this POC; any mark and a POC of these low k bits; a
+// short-term picture of this POC; one that holds this surface.
 pub enum Sought {
     AnyAt(i32),
     LowAt(u8, i32),
@@ -133,7 +133,8 @@ pub(crate) fn next_count(n: u32) -> u32
     if n < COUNT_LIMIT { n + 1 } else { COUNT_LIMIT }
 }
 
-// What is done to each picture of a store that is read from its words: nothing; its count rises by 1; it loses its mark.
+// What is done to each picture of a store that is read from its words: nothing; its count rises by 1; it loses its
+// mark.
 pub enum Change {
     Nothing,
     Raise,

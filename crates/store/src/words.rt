@@ -1,5 +1,6 @@
-// The words that a host lends a store in: sixteen places of six words, and behind them how many are used. No other file of the store knows
-// them. A store is read from them (`load`) and written back (`save`); each whole operation does both.
+// The words that a host lends a store in: sixteen places of six words, and behind them how many are used. No other file
+// of the store knows them. A store is read from them (`load`) and written back (`save`); each whole operation does
+// both.
 ghost use mathlib.Core.Path.{_≡_};
 ghost use mathlib.Core.Bool.{cond};
 ghost use mathlib.Core.List.{[], map};
@@ -13,7 +14,8 @@ ghost use Rattle.paper.specs.Output.{emptied, beforeDecoding};
 ghost use Rattle.paper.specs.Calls.{finished, drained, discarded};
 ghost use Rattle.paper.specs.declared.Now.the-variants.{Is};
 ghost use Rattle.store.specs.Walks.{blank, changeBy, unmarkIf};
-ghost use Rattle.store.specs.Shelf.{flagOf, flagWord, markOf, markWord, pictureAt, pictures, stored, countIn, Puts, Tidy, NormalForm};
+ghost use Rattle.store.specs.Shelf.{flagOf, flagWord, markOf, markWord, pictureAt, pictures, stored, countIn};
+ghost use Rattle.store.specs.Shelf.{Puts, Tidy, NormalForm};
 ghost use Rattle.store.specs.Places.{front, storedIn, roomy, roomOf, numberOfRoom};
 ghost use Rattle.store.specs.Bumps.{Leaves};
 ghost use Rattle.store.specs.Runs.{wishesWithin, Derives};
@@ -21,14 +23,14 @@ use crate::Derived;
 use crate::Moved;
 use crate::Room;
 use crate::Store;
-use crate::ending;
+use crate::operations;
 use crate::pictures::Change;
 use crate::pictures::Sought;
 use crate::pictures::none;
 use crate::pictures::passes;
 use crate::pictures::read_as;
-use crate::searching::used_in;
-use crate::setting;
+use crate::searches::used_in;
+use crate::sets;
 use derivation::fewer;
 use paper::Current;
 use paper::Limits;
@@ -66,7 +68,8 @@ fn used_places(t: &[u32; Store::WORDS]) -> usize
 // Whether a picture more may be stored: number 9 compares with the capacity, over 16 taken as 16.
 pub fn room_in(t: &[u32; Store::WORDS], l: Limits) -> Room
     ensures answer { λ r. ⌜ r ≡ roomOf (leb (min (l .capacity) 16) (length (stored (now (t .entry))))) ⌝ }
-    ensures number { λ r. ⌜ numberOfRoom r ≡ cond (leb (min (l .capacity) 16) (length (stored (now (t .entry))))) 9 0 ⌝ }
+    ensures number { λ r. ⌜ numberOfRoom r ≡ cond
+        (leb (min (l .capacity) 16) (length (stored (now (t .entry))))) 9 0 ⌝ }
 {
     let most = l.capacity as usize;
     let n = used_places(t);
@@ -132,7 +135,7 @@ fn picture_at(t: &[u32; Store::WORDS], i: usize) -> Picture
     }
 }
 
-// How many words a store has. Its type says so of what is lent, and a proof is told it here.
+// Proof helper: states that the array has 97 words; compiles to nothing.
 fn count_words(words: [u32; Store::WORDS]) -> usize
     ensures { λ r. ⌜ (r ≡ 97) × (length words ≡ 97) ⌝ }
 {
@@ -165,7 +168,7 @@ fn put_blank(t: &mut [u32; Store::WORDS], i: usize)
     put_picture(t, i, none());
 }
 
-// The places from k on hold nothing, of the first n.
+// Blanks places k to n − 1.
 fn blank_from(t: &mut [u32; Store::WORDS], k: usize, n: usize)
     requires { ⌜ (k ≤ n) × (n ≤ 16) ⌝ }
     ensures kept { λ _. ⌜ pictures (now (t .exit)) k ≡ pictures (now (t .entry)) k ⌝ }
@@ -235,7 +238,7 @@ pub fn forget_all(t: &mut [u32; Store::WORDS])
     ensures normal { λ _. ⌜ NormalForm (now (t .exit)) ⌝ }
 {
     *t = [0; Store::WORDS];
-    save(t, ending::start(Store::empty()));
+    save(t, operations::start(Store::empty()));
 }
 
 // Whether a stored picture holds the surface x (number 7).
@@ -265,8 +268,8 @@ fn unmarking(over: bool) -> Change
     }
 }
 
-// Step 4 of begin (8.3.2) on the store that the words hold, which stay: the store with its marks, and the sets. The wishes are neg, pos and
-// lt ones, one behind the other; a count over the places that are left counts as those.
+// Step 4 of begin (8.3.2) on the store that the words hold, which stay: the store with its marks, and the sets. The
+// wishes are neg, pos and lt ones, one behind the other; a count over the places that are left counts as those.
 pub fn derive_and_mark_rps(
     t: &[u32; Store::WORDS],
     k: u8,
@@ -277,12 +280,13 @@ pub fn derive_and_mark_rps(
     pos: usize,
     lt: usize,
 ) -> Derived
-    ensures { λ r. ⌜ Derives (2 ^ (min k 16)) (unmarkedIf over (stored (now (t .entry)))) (wishesWithin (now (pocs .entry)) (now (hows .entry)) neg pos lt) r ⌝ }
+    ensures { λ r. ⌜ Derives (2 ^ (min k 16)) (unmarkedIf over (stored (now (t .entry))))
+        (wishesWithin (now (pocs .entry)) (now (hows .entry)) neg pos lt) r ⌝ }
 {
     let n = fewer(neg, Store::CAPACITY);
     let p = fewer(pos, Store::CAPACITY - n);
     let q = fewer(lt, Store::CAPACITY - n - p);
-    setting::derive_and_mark_rps(load(t, unmarking(over)), k, pocs, hows, n, p, q)
+    sets::derive_and_mark_rps(load(t, unmarking(over)), k, pocs, hows, n, p, q)
 }
 
 // Step 5 of begin (C.5.2.2) on a store, which the words then hold.
@@ -297,17 +301,17 @@ pub fn update_dpb_before_decoding(
 {
     let places = s.places;
     let n = used_in(s);
-    let m = ending::update_dpb_before_decoding(Store { places, len: n }, starts, no_prior, l);
+    let m = operations::update_dpb_before_decoding(Store { places, len: n }, starts, no_prior, l);
     save(t, m);
     m
 }
 
-// Finish (C.5.2.3): counts rise, the picture is stored, and others are handed out while due, without the buffering test. Where every place
-// is used it takes the last one; `room_in` tells before.
+// Finish (C.5.2.3): counts rise, the picture is stored, and others are handed out while due, without the buffering
+// test. Where every place is used it takes the last one; `room_in` tells before.
 pub fn finish_picture(t: &mut [u32; Store::WORDS], c: Current, l: Limits) -> Moved
     ensures { λ r. ⌜ Leaves (finished l (roomy (stored (now (t .entry)))) c) (now (t .entry)) (now (t .exit)) r ⌝ }
 {
-    let m = ending::finish_picture(load(t, Change::Raise), c, l);
+    let m = operations::finish_picture(load(t, Change::Raise), c, l);
     save(t, m);
     m
 }
@@ -316,7 +320,7 @@ pub fn finish_picture(t: &mut [u32; Store::WORDS], c: Current, l: Limits) -> Mov
 pub fn finish_and_drain(t: &mut [u32; Store::WORDS], c: Current, l: Limits) -> Moved
     ensures { λ r. ⌜ Leaves (drained l (roomy (stored (now (t .entry)))) (Is c)) (now (t .entry)) (now (t .exit)) r ⌝ }
 {
-    let m = ending::finish_and_drain(load(t, Change::Raise), c, l);
+    let m = operations::finish_and_drain(load(t, Change::Raise), c, l);
     save(t, m);
     m
 }
@@ -325,7 +329,7 @@ pub fn finish_and_drain(t: &mut [u32; Store::WORDS], c: Current, l: Limits) -> M
 pub fn drain(t: &mut [u32; Store::WORDS]) -> Moved
     ensures { λ r. ⌜ Leaves (emptied (stored (now (t .entry)))) (now (t .entry)) (now (t .exit)) r ⌝ }
 {
-    let m = ending::drain(load(t, Change::Nothing));
+    let m = operations::drain(load(t, Change::Nothing));
     save(t, m);
     m
 }
@@ -334,7 +338,7 @@ pub fn drain(t: &mut [u32; Store::WORDS]) -> Moved
 pub fn discard(t: &mut [u32; Store::WORDS], x: Now) -> Moved
     ensures { λ r. ⌜ Leaves (discarded (stored (now (t .entry))) x) (now (t .entry)) (now (t .exit)) r ⌝ }
 {
-    let m = ending::discard(load(t, Change::Nothing), x);
+    let m = operations::discard(load(t, Change::Nothing), x);
     save(t, m);
     m
 }

@@ -14,10 +14,10 @@ use Rattle.paper.specs.Watch.{Verdict, replyPart, partOf, watched}
 use Rattle.paper.proofs.Bools.{split}
 use Rattle.watch.specs.declared.Tally.{Tally}
 use Rattle.watch.specs.declared.Book.{Book}
-use Rattle.watch.specs.declared.pairing.Paired.{Paired}
+use Rattle.watch.specs.declared.exchanges.Paired.{Paired}
 use Rattle.watch.specs.Book.{Holds, bookIn, HoldsBook}
 use Rattle.watch.specs.Pairs.{tallyAll, Watches}
-use Rattle.watch.proofs.Exchanges.{inOrder, part-order, held-order, current-order, begun-order, is-ledger, same-book, watched-more}
+use Rattle.watch.proofs.ExchangeLaws.{inOrder, part-order, held-order, current-order, begun-order, is-ledger, same-book, watched-more}
 
 same-order : (L K : Ledger) → inOrder L ≡ inOrder K → (r a : List ℕ) → partOf L r a ≡ partOf K r a
 unfolding partOf first

@@ -10,6 +10,7 @@ use lib.Seq.{getD-drop, drop-drop}
 use lib.Dec.{eqb}
 use borrow.Author.Tests.{eq-eqb, ne-eqb}
 use Rattle.paper.specs.Numbers.{u8, u16, u32, i32, aSerial, aSurface}
+use Rattle.paper.specs.Kinds.{shownWidth}
 use Rattle.paper.specs.WholeReply.{thrownAt, releasedAt}
 use Rattle.paper.specs.Ledger.{Event, Hand, Throw, Free, readWords, readShown, readReleased, readTail, events, none}
 use Rattle.watch.specs.declared.events.Part.{Part}
@@ -73,17 +74,17 @@ words-append (suc n) m k r =
 -- ---- a tail, by its three parts
 
 pub tail-events : (at : ℕ) (r : List ℕ)
-    → events (readTail (drop at r)) ≡ counted Handed (drop at r) ++ (counted Thrown (drop (thrownAt r at) r) ++ counted Released (drop (releasedAt r at) r))
+    → events (readTail (drop at r)) ≡ counted Handed (drop at r) ++ (counted Thrown (drop (thrownAt shownWidth r at) r) ++ counted Released (drop (releasedAt shownWidth r at) r))
 unfolding readTail readReleased counted eventsOf
 tail-events at r =
     let n = u8 r at in
-    let m = u8 r (thrownAt r at) in
+    let m = u8 r (thrownAt shownWidth r at) in
     let a : u8 (drop at r) 0 ≡ n = u8-drop at r in
-    let g : at + (1 + 12 * n) ≡ thrownAt r at = omega arith in
-    let b : drop (12 * n) (drop 1 (drop at r)) ≡ drop (thrownAt r at) r = drop-drop (12 * n) 1 (drop at r) ∙ drop-drop (1 + 12 * n) at r ∙ ap (λ (k : ℕ). drop k r) g in
-    let d : u8 (drop (thrownAt r at) r) 0 ≡ m = u8-drop (thrownAt r at) r in
-    let h : thrownAt r at + (1 + 4 * m) ≡ releasedAt r at = omega arith in
-    let e : drop (4 * m) (drop 1 (drop (thrownAt r at) r)) ≡ drop (releasedAt r at) r = drop-drop (4 * m) 1 (drop (thrownAt r at) r) ∙ drop-drop (1 + 4 * m) (thrownAt r at) r ∙ ap (λ (k : ℕ). drop k r) h in
+    let g : at + (1 + shownWidth * n) ≡ thrownAt shownWidth r at = omega arith in
+    let b : drop (shownWidth * n) (drop 1 (drop at r)) ≡ drop (thrownAt shownWidth r at) r = drop-drop (shownWidth * n) 1 (drop at r) ∙ drop-drop (1 + shownWidth * n) at r ∙ ap (λ (k : ℕ). drop k r) g in
+    let d : u8 (drop (thrownAt shownWidth r at) r) 0 ≡ m = u8-drop (thrownAt shownWidth r at) r in
+    let h : thrownAt shownWidth r at + (1 + 4 * m) ≡ releasedAt shownWidth r at = omega arith in
+    let e : drop (4 * m) (drop 1 (drop (thrownAt shownWidth r at) r)) ≡ drop (releasedAt shownWidth r at) r = drop-drop (4 * m) 1 (drop (thrownAt shownWidth r at) r) ∙ drop-drop (1 + 4 * m) (thrownAt shownWidth r at) r ∙ ap (λ (k : ℕ). drop k r) h in
     rw (a, b, d, e)
 
 -- ---- how many
@@ -134,32 +135,32 @@ unfolding counted
 counted-is p k r = rw (u8-drop k r, drop-drop 1 k r)
 
 module _ (at : ℕ) (r : List ℕ) where
-  pub quiet-tail : none (events (readTail (drop at r))) ≡ (eqb (u8 r at) 0 && (eqb (u8 r (thrownAt r at)) 0 && eqb (u8 r (releasedAt r at)) 0))
+  pub quiet-tail : none (events (readTail (drop at r))) ≡ (eqb (u8 r at) 0 && (eqb (u8 r (thrownAt shownWidth r at)) 0 && eqb (u8 r (releasedAt shownWidth r at)) 0))
   quiet-tail =
       let x = counted Handed (drop at r) in
-      let y = counted Thrown (drop (thrownAt r at) r) in
-      let z = counted Released (drop (releasedAt r at) r) in
-      rw (tail-events at r, none-append x (y ++ z), none-append y z, none-counted Handed at r, none-counted Thrown (thrownAt r at) r, none-counted Released (releasedAt r at) r)
+      let y = counted Thrown (drop (thrownAt shownWidth r at) r) in
+      let z = counted Released (drop (releasedAt shownWidth r at) r) in
+      rw (tail-events at r, none-append x (y ++ z), none-append y z, none-counted Handed at r, none-counted Thrown (thrownAt shownWidth r at) r, none-counted Released (releasedAt shownWidth r at) r)
 
   -- the serials thrown away stand behind the second count
-  thrown-is : readTail (drop at r) .thrown ≡ map aSerial (readWords (u8 r (thrownAt r at)) (drop (thrownAt r at + 1) r))
+  thrown-is : readTail (drop at r) .thrown ≡ map aSerial (readWords (u8 r (thrownAt shownWidth r at)) (drop (thrownAt shownWidth r at + 1) r))
   unfolding readTail readReleased
   thrown-is =
       let n = u8 r at in
       let a : u8 (drop at r) 0 ≡ n = u8-drop at r in
-      let g : at + (1 + 12 * n) ≡ thrownAt r at = omega arith in
-      let b : drop (12 * n) (drop 1 (drop at r)) ≡ drop (thrownAt r at) r = drop-drop (12 * n) 1 (drop at r) ∙ drop-drop (1 + 12 * n) at r ∙ ap (λ (k : ℕ). drop k r) g in
-      rw (a, b, u8-drop (thrownAt r at) r, drop-drop 1 (thrownAt r at) r)
+      let g : at + (1 + shownWidth * n) ≡ thrownAt shownWidth r at = omega arith in
+      let b : drop (shownWidth * n) (drop 1 (drop at r)) ≡ drop (thrownAt shownWidth r at) r = drop-drop (shownWidth * n) 1 (drop at r) ∙ drop-drop (1 + shownWidth * n) at r ∙ ap (λ (k : ℕ). drop k r) g in
+      rw (a, b, u8-drop (thrownAt shownWidth r at) r, drop-drop 1 (thrownAt shownWidth r at) r)
 
-  pub none-thrown : none (readTail (drop at r) .thrown) ≡ eqb (u8 r (thrownAt r at)) 0
-  none-thrown = rw thrown-is (none-words aSerial (u8 r (thrownAt r at)) (drop (thrownAt r at + 1) r))
+  pub none-thrown : none (readTail (drop at r) .thrown) ≡ eqb (u8 r (thrownAt shownWidth r at)) 0
+  none-thrown = rw thrown-is (none-words aSerial (u8 r (thrownAt shownWidth r at)) (drop (thrownAt shownWidth r at + 1) r))
 
   pub none-handed : none (readTail (drop at r) .handed) ≡ eqb (u8 r at) 0
   unfolding readTail
   none-handed = none-shown (u8 (drop at r) 0) (drop 1 (drop at r)) ∙ ap (λ (n : ℕ). eqb n 0) (u8-drop at r)
 
-  pub thrown-count : length (readTail (drop at r) .thrown) ≡ u8 r (thrownAt r at)
-  thrown-count = rw thrown-is (length-map (readWords (u8 r (thrownAt r at)) (drop (thrownAt r at + 1) r)) aSerial ∙ length-words (u8 r (thrownAt r at)) (drop (thrownAt r at + 1) r))
+  pub thrown-count : length (readTail (drop at r) .thrown) ≡ u8 r (thrownAt shownWidth r at)
+  thrown-count = rw thrown-is (length-map (readWords (u8 r (thrownAt shownWidth r at)) (drop (thrownAt shownWidth r at + 1) r)) aSerial ∙ length-words (u8 r (thrownAt shownWidth r at)) (drop (thrownAt shownWidth r at + 1) r))
 
   pub handed-count : length (readTail (drop at r) .handed) ≡ u8 r at
   unfolding readTail

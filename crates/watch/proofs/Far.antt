@@ -12,14 +12,14 @@ use Rattle.paper.specs.Words.{allB}
 use Rattle.paper.specs.Ledger.{Ledger}
 use Rattle.paper.specs.Watch.{Verdict, watched}
 use Rattle.paper.proofs.Bools.{split}
-use Rattle.framing.specs.Cut.{Parts, sizeOf, joined, isWhole, cut}
-use Rattle.framing.proofs.Cutting.{front-cut, parts-none}
+use Rattle.format.specs.Cut.{Parts, sizeOf, joined, isWhole, cut}
+use Rattle.format.proofs.Cutting.{front-cut, parts-none}
 use Rattle.watch.specs.declared.Book.{Book}
-use Rattle.watch.specs.declared.pairing.Paired.{Paired}
+use Rattle.watch.specs.declared.exchanges.Paired.{Paired}
 use Rattle.watch.specs.Book.{bookIn, HoldsBook}
 use Rattle.watch.specs.Pairs.{tallyAll, Watches, WatchesAll}
 use Rattle.watch.proofs.Determined.{one-book}
-use Rattle.watch.proofs.Exchanges.{watched-even}
+use Rattle.watch.proofs.ExchangeLaws.{watched-even}
 use Rattle.watch.proofs.Blocks.{watched-broken, watched-within}
 
 pub length-none : {A : Type 0} (l : List A) → length l ≡ 0 → l ≡ []

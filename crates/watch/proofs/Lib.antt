@@ -1,12 +1,12 @@
 pub mod Walks
 pub mod Pocs
 pub mod Bytes
-pub mod Parts
-pub mod Replies
+pub mod PartLaws
+pub mod ReplyLaws
 pub mod Ways
 pub mod Hearing
 pub mod Determined
 pub mod Sizes
-pub mod Exchanges
+pub mod ExchangeLaws
 pub mod Blocks
 pub mod Far

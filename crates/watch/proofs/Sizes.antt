@@ -9,7 +9,7 @@ use lib.ListN.{length, drop}
 use borrow.Author.Tests.{eqb-false}
 use Rattle.paper.proofs.Places.{at-end}
 use Rattle.paper.proofs.Bools.{split, not-both, or-left, or-right}
-use Rattle.framing.specs.Cut.{sizeOf}
+use Rattle.format.specs.Cut.{sizeOf}
 
 -- behind the end nothing is whole
 pub size-none : (l : List ℕ) (k : ℕ) → length l ≤ k → sizeOf (drop k l) ≡ 0

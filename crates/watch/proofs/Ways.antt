@@ -11,6 +11,7 @@ use borrow.Author.Tests.{eq-eqb, ne-eqb, lt-ltb, le-ltb}
 use Rattle.derivation.proofs.Pad.{is-view, is-good}
 use Rattle.paper.specs.Words.{_gives_, first, anyB, keep}
 use Rattle.paper.specs.Numbers.{u8, u16, u32, bit}
+use Rattle.paper.specs.Kinds.{finishKind, discardKind, endKind, abandonKind, restPlace, wordWidth, shownWidth, begunMembers, flagsPlace, membersPlace}
 use Rattle.paper.specs.Sets.{inOrder}
 use Rattle.paper.specs.Output.{Tail}
 use Rattle.paper.specs.Replies.{Reply, Begun}
@@ -30,7 +31,7 @@ use Rattle.watch.specs.Places.{startedIn, doneIn}
 use Rattle.watch.specs.Judging.{Tidy, pageOf, leftPart, Gives, Judged, Lists, Ends, Abandons, Lands}
 use Rattle.watch.proofs.Walks.{keep-short}
 use Rattle.watch.proofs.Bytes.{none-thrown, none-handed}
-use Rattle.watch.proofs.Replies.{tail-there, members-read}
+use Rattle.watch.proofs.ReplyLaws.{tail-there, members-read}
 
 -- ---- an answer with a part, and one with none
 
@@ -65,21 +66,21 @@ none-length (e ∷ H) = let n : length (e ∷ H) ≡ 0 → ⊥ = omega arith in 
 
 -- the test of a clear, read where the code reads it
 pub clear-is : (H : List Line) (a : List ℕ) (at n : ℕ) → n ≡ length H
-    → (eqb (u8 a (thrownAt a at)) 0 || (bit 3 (u8 a 10) && (eqb (u8 a at) 0 && eqb n 0))) ≡ clearing (readBegun (drop 6 a)) (readTail (drop at a)) H
+    → (eqb (u8 a (thrownAt shownWidth a at)) 0 || (bit 3 (u8 a flagsPlace) && (eqb (u8 a at) 0 && eqb n 0))) ≡ clearing (readBegun (drop restPlace a)) (readTail (drop at a)) H
 unfolding readBegun
-clear-is H a at n e = rw (none-thrown at a, none-handed at a, none-length H, getD-drop 6 a 4 0, e)
+clear-is H a at n e = rw (none-thrown at a, none-handed at a, none-length H, getD-drop restPlace a 4 0, e)
 
 module _ (H : List Line) (a : List ℕ) (n : ℕ) where
-  pub left-19 : clearing (readBegun (drop 6 a)) (readTail (drop (20 + 4 * n) a)) H ≡ false → leftPart H a n ≡ 19
+  pub left-19 : clearing (readBegun (drop restPlace a)) (readTail (drop (membersPlace + wordWidth * n) a)) H ≡ false → leftPart H a n ≡ 19
   unfolding first
   left-19 e = rw e
 
-  module _ (e : clearing (readBegun (drop 6 a)) (readTail (drop (20 + 4 * n) a)) H ≡ true) where
-    pub left-12 : names (readSerials n (drop 20 a)) H ≡ false → leftPart H a n ≡ 12
+  module _ (e : clearing (readBegun (drop restPlace a)) (readTail (drop (membersPlace + wordWidth * n) a)) H ≡ true) where
+    pub left-12 : names (readSerials n (drop membersPlace a)) H ≡ false → leftPart H a n ≡ 12
     unfolding first
     left-12 f = rw (e, f)
 
-    pub left-0 : names (readSerials n (drop 20 a)) H ≡ true → leftPart H a n ≡ 0
+    pub left-0 : names (readSerials n (drop membersPlace a)) H ≡ true → leftPart H a n ≡ 0
     unfolding first
     left-0 f = rw (e, f)
 
@@ -88,49 +89,49 @@ module _ (b : Book) (r a : List ℕ) where
   unfolding replyPart first
   begins-3 c = gives-no 3 (omega arith) (rw c)
 
-  module _ (c : none (currentIn (b .current)) ≡ true) (e : Line) (w : e ≡ lineOf r (readBegun (drop 6 a))) where
+  module _ (c : none (currentIn (b .current)) ≡ true) (e : Line) (w : e ≡ lineOf r (readBegun (drop restPlace a))) where
     pub begins-4 : (e .serial .0 ≡ b .begun → ⊥) → Judged b r (startedIn a) (record { part = 4; book = b })
     unfolding replyPart first
-    begins-4 n = gives-no 4 (omega arith) (rw (c, ne-eqb (readBegun (drop 6 a) .serial .0) (b .begun) (rw w at n)))
+    begins-4 n = gives-no 4 (omega arith) (rw (c, ne-eqb (readBegun (drop restPlace a) .serial .0) (b .begun) (rw w at n)))
 
     module _ (s : e .serial .0 ≡ b .begun) where
       pub begins-5 : anyB (lies (e .surface .0)) (view (b .held)) ≡ true → Judged b r (startedIn a) (record { part = 5; book = b })
       unfolding replyPart first
-      begins-5 h = gives-no 5 (omega arith) (rw (c, eq-eqb (readBegun (drop 6 a) .serial .0) (b .begun) (rw w at s), rw w at h))
+      begins-5 h = gives-no 5 (omega arith) (rw (c, eq-eqb (readBegun (drop restPlace a) .serial .0) (b .begun) (rw w at s), rw w at h))
 
-      module _ (h : anyB (lies (e .surface .0)) (view (b .held)) ≡ false) (n : ℕ) (m : n ≡ membersOf a) (t : Told) (g : Tells (events (readTail (drop (20 + 4 * n) a))) (view (b .held)) t) where
-        there : Tells (events (readTail (drop (4 * setWords (drop 6 a)) (drop 14 (drop 6 a))))) (view (b .held)) t
+      module _ (h : anyB (lies (e .surface .0)) (view (b .held)) ≡ false) (n : ℕ) (m : n ≡ membersOf a) (t : Told) (g : Tells (events (readTail (drop (membersPlace + wordWidth * n) a))) (view (b .held)) t) where
+        there : Tells (events (readTail (drop (4 * setWords (drop restPlace a)) (drop begunMembers (drop restPlace a))))) (view (b .held)) t
         there = rw (tail-there a, ← m) g
 
         pub begins-tail : (t .part ≡ 0 → ⊥) → Judged b r (startedIn a) (record { part = t .part; book = b })
         unfolding replyPart first
         begins-tail z =
-            let v : tailPart (events (readTail (drop (4 * setWords (drop 6 a)) (drop 14 (drop 6 a))))) (view (b .held)) ≡ t .part = sym (there .part) in
-            gives-no (t .part) z (rw (c, eq-eqb (readBegun (drop 6 a) .serial .0) (b .begun) (rw w at s), rw w at h, v, ne-eqb (t .part) 0 z))
+            let v : tailPart (events (readTail (drop (4 * setWords (drop restPlace a)) (drop begunMembers (drop restPlace a))))) (view (b .held)) ≡ t .part = sym (there .part) in
+            gives-no (t .part) z (rw (c, eq-eqb (readBegun (drop restPlace a) .serial .0) (b .begun) (rw w at s), rw w at h, v, ne-eqb (t .part) 0 z))
 
         module _ (z : t .part ≡ 0) where
-          zero-part : tailPart (events (readTail (drop (4 * setWords (drop 6 a)) (drop 14 (drop 6 a))))) (view (b .held)) ≡ 0
+          zero-part : tailPart (events (readTail (drop (4 * setWords (drop restPlace a)) (drop begunMembers (drop restPlace a))))) (view (b .held)) ≡ 0
           zero-part = sym (there .part) ∙ z
 
-          left-lines : Holds (t .lines) (uponAll (events (readTail (drop (4 * setWords (drop 6 a)) (drop 14 (drop 6 a))))) (view (b .held)))
+          left-lines : Holds (t .lines) (uponAll (events (readTail (drop (4 * setWords (drop restPlace a)) (drop begunMembers (drop restPlace a))))) (view (b .held)))
           left-lines = there .lines zero-part
 
           -- the last two parts, read where the code reads them
-          left-is : first (not (clearing (readBegun (drop 6 a)) (readTail (drop (4 * setWords (drop 6 a)) (drop 14 (drop 6 a)))) (uponAll (events (readTail (drop (4 * setWords (drop 6 a)) (drop 14 (drop 6 a))))) (view (b .held)))) gives 19
-              ∷ not (names (inOrder (readBegun (drop 6 a) .sets)) (uponAll (events (readTail (drop (4 * setWords (drop 6 a)) (drop 14 (drop 6 a))))) (view (b .held)))) gives 12
+          left-is : first (not (clearing (readBegun (drop restPlace a)) (readTail (drop (4 * setWords (drop restPlace a)) (drop begunMembers (drop restPlace a)))) (uponAll (events (readTail (drop (4 * setWords (drop restPlace a)) (drop begunMembers (drop restPlace a))))) (view (b .held)))) gives 19
+              ∷ not (names (inOrder (readBegun (drop restPlace a) .sets)) (uponAll (events (readTail (drop (4 * setWords (drop restPlace a)) (drop begunMembers (drop restPlace a))))) (view (b .held)))) gives 12
               ∷ []) ≡ leftPart (view (t .lines)) a n
           left-is =
-              let B = readBegun (drop 6 a) in
+              let B = readBegun (drop restPlace a) in
               let H = view (t .lines) in
-              let x : drop (4 * setWords (drop 6 a)) (drop 14 (drop 6 a)) ≡ drop (20 + 4 * n) a = tail-there a ∙ ap (λ (k : ℕ). drop (20 + 4 * k) a) (sym m) in
-              let y : inOrder (B .sets) ≡ readSerials n (drop 20 a) = members-read a ∙ ap (λ (k : ℕ). readSerials k (drop 20 a)) (sym m) in
-              ap (λ (K : List Line). first (not (clearing B (readTail (drop (4 * setWords (drop 6 a)) (drop 14 (drop 6 a)))) K) gives 19 ∷ not (names (inOrder (B .sets)) K) gives 12 ∷ [])) (sym (is-view left-lines))
+              let x : drop (4 * setWords (drop restPlace a)) (drop begunMembers (drop restPlace a)) ≡ drop (membersPlace + wordWidth * n) a = tail-there a ∙ ap (λ (k : ℕ). drop (membersPlace + wordWidth * k) a) (sym m) in
+              let y : inOrder (B .sets) ≡ readSerials n (drop membersPlace a) = members-read a ∙ ap (λ (k : ℕ). readSerials k (drop membersPlace a)) (sym m) in
+              ap (λ (K : List Line). first (not (clearing B (readTail (drop (4 * setWords (drop restPlace a)) (drop begunMembers (drop restPlace a)))) K) gives 19 ∷ not (names (inOrder (B .sets)) K) gives 12 ∷ [])) (sym (is-view left-lines))
               ∙ ap (λ (w : List ℕ). first (not (clearing B (readTail w) H) gives 19 ∷ not (names (inOrder (B .sets)) H) gives 12 ∷ [])) x
-              ∙ ap (λ (ns : List Serial). first (not (clearing B (readTail (drop (20 + 4 * n) a)) H) gives 19 ∷ not (names ns H) gives 12 ∷ [])) y
+              ∙ ap (λ (ns : List Serial). first (not (clearing B (readTail (drop (membersPlace + wordWidth * n) a)) H) gives 19 ∷ not (names ns H) gives 12 ∷ [])) y
 
-          started-left : startedPart (pageOf b) r (readBegun (drop 6 a)) (readTail (drop (4 * setWords (drop 6 a)) (drop 14 (drop 6 a)))) ≡ leftPart (view (t .lines)) a n
+          started-left : startedPart (pageOf b) r (readBegun (drop restPlace a)) (readTail (drop (4 * setWords (drop restPlace a)) (drop begunMembers (drop restPlace a)))) ≡ leftPart (view (t .lines)) a n
           unfolding first
-          started-left = rw (c, eq-eqb (readBegun (drop 6 a) .serial .0) (b .begun) (rw w at s), rw w at h, zero-part) left-is
+          started-left = rw (c, eq-eqb (readBegun (drop restPlace a) .serial .0) (b .begun) (rw w at s), rw w at h, zero-part) left-is
 
           pub begins-left : (p : ℕ) → p ≡ leftPart (view (t .lines)) a n → (p ≡ 0 → ⊥) → Judged b r (startedIn a) (record { part = p; book = b })
           unfolding replyPart
@@ -143,7 +144,7 @@ module _ (b : Book) (r a : List ℕ) where
               gives-yes (started-left ∙ q)
               (record {
                 held = left-lines;
-                few = omega (arith, left-lines .long, all-short (events (readTail (drop (4 * setWords (drop 6 a)) (drop 14 (drop 6 a))))) (view (b .held)), tidy .few, tidy .good .long);
+                few = omega (arith, left-lines .long, all-short (events (readTail (drop (4 * setWords (drop restPlace a)) (drop begunMembers (drop restPlace a))))) (view (b .held)), tidy .few, tidy .good .long);
                 current = rw w;
                 begun = refl;
                 tally = refl;
@@ -208,68 +209,68 @@ module _ (b : Book) (x : Tail) where
 -- ---- finish, drain, configure, discard
 
 module _ (b : Book) (kind : ℕ) (a : List ℕ) where
-  pub lands-13 : (eqb kind 4 && none (currentIn (b .current))) ≡ true → Lands b kind (readTail (drop 6 a)) (record { part = 13; book = b })
+  pub lands-13 : (eqb kind finishKind && none (currentIn (b .current))) ≡ true → Lands b kind (readTail (drop restPlace a)) (record { part = 13; book = b })
   unfolding first
   lands-13 c = gives-no 13 (omega arith) (rw c)
 
-  module _ (c : (eqb kind 4 && none (currentIn (b .current))) ≡ false) (w : ℕ) (e : w ≡ u8 a (thrownAt a 6)) where
-    threw : {v : Bool} → (not (eqb kind 6) && not (eqb w 0)) ≡ v → (not (eqb kind 6) && not (none (readTail (drop 6 a) .thrown))) ≡ v
+  module _ (c : (eqb kind finishKind && none (currentIn (b .current))) ≡ false) (w : ℕ) (e : w ≡ u8 a (thrownAt shownWidth a 6)) where
+    threw : {v : Bool} → (not (eqb kind discardKind) && not (eqb w 0)) ≡ v → (not (eqb kind discardKind) && not (none (readTail (drop restPlace a) .thrown))) ≡ v
     threw m = rw (none-thrown 6 a, ← e) m
 
-    pub lands-9 : (not (eqb kind 6) && not (eqb w 0)) ≡ true → Lands b kind (readTail (drop 6 a)) (record { part = 9; book = b })
+    pub lands-9 : (not (eqb kind discardKind) && not (eqb w 0)) ≡ true → Lands b kind (readTail (drop restPlace a)) (record { part = 9; book = b })
     unfolding first
     lands-9 m = gives-no 9 (omega arith) (rw (c, threw m))
 
-    module _ (m : (not (eqb kind 6) && not (eqb w 0)) ≡ false) (t : Told) (g : Tells (events (readTail (drop 6 a))) (view (b .held) ++ currentIn (b .current)) t) where
-      pub lands-tail : (t .part ≡ 0 → ⊥) → Lands b kind (readTail (drop 6 a)) (record { part = t .part; book = b })
+    module _ (m : (not (eqb kind discardKind) && not (eqb w 0)) ≡ false) (t : Told) (g : Tells (events (readTail (drop restPlace a))) (view (b .held) ++ currentIn (b .current)) t) where
+      pub lands-tail : (t .part ≡ 0 → ⊥) → Lands b kind (readTail (drop restPlace a)) (record { part = t .part; book = b })
       unfolding first
       lands-tail z =
-          let v : tailPart (events (readTail (drop 6 a))) (view (b .held) ++ currentIn (b .current)) ≡ t .part = sym (g .part) in
+          let v : tailPart (events (readTail (drop restPlace a))) (view (b .held) ++ currentIn (b .current)) ≡ t .part = sym (g .part) in
           gives-no (t .part) z (rw (c, threw m, v, ne-eqb (t .part) 0 z))
 
       module _ (z : t .part ≡ 0) where
-        landed-part : tailPart (events (readTail (drop 6 a))) (view (b .held) ++ currentIn (b .current)) ≡ 0
+        landed-part : tailPart (events (readTail (drop restPlace a))) (view (b .held) ++ currentIn (b .current)) ≡ 0
         landed-part = sym (g .part) ∙ z
 
-        landed-lines : Holds (t .lines) (uponAll (events (readTail (drop 6 a))) (view (b .held) ++ currentIn (b .current)))
+        landed-lines : Holds (t .lines) (uponAll (events (readTail (drop restPlace a))) (view (b .held) ++ currentIn (b .current)))
         landed-lines = g .lines landed-part
 
-        leaves : {v : Bool} → (not (eqb kind 4) && not (eqb (t .lines .len) 0)) ≡ v
-            → (not (eqb kind 4) && not (none (uponAll (events (readTail (drop 6 a))) (view (b .held) ++ currentIn (b .current))))) ≡ v
-        leaves n = rw (none-length (uponAll (events (readTail (drop 6 a))) (view (b .held) ++ currentIn (b .current))), ← landed-lines .long) n
+        leaves : {v : Bool} → (not (eqb kind finishKind) && not (eqb (t .lines .len) 0)) ≡ v
+            → (not (eqb kind finishKind) && not (none (uponAll (events (readTail (drop restPlace a))) (view (b .held) ++ currentIn (b .current))))) ≡ v
+        leaves n = rw (none-length (uponAll (events (readTail (drop restPlace a))) (view (b .held) ++ currentIn (b .current))), ← landed-lines .long) n
 
-        pub lands-15 : (not (eqb kind 4) && not (eqb (t .lines .len) 0)) ≡ true → Lands b kind (readTail (drop 6 a)) (record { part = 15; book = b })
+        pub lands-15 : (not (eqb kind finishKind) && not (eqb (t .lines .len) 0)) ≡ true → Lands b kind (readTail (drop restPlace a)) (record { part = 15; book = b })
         unfolding first
         lands-15 n = gives-no 15 (omega arith) (rw (c, threw m, landed-part, leaves n))
 
-        module _ (n : (not (eqb kind 4) && not (eqb (t .lines .len) 0)) ≡ false) where
-          pub lands-16 : 16 < t .lines .len → Lands b kind (readTail (drop 6 a)) (record { part = 16; book = b })
+        module _ (n : (not (eqb kind finishKind) && not (eqb (t .lines .len) 0)) ≡ false) where
+          pub lands-16 : 16 < t .lines .len → Lands b kind (readTail (drop restPlace a)) (record { part = 16; book = b })
           unfolding first
           lands-16 lt =
-              let k : ltb 16 (length (uponAll (events (readTail (drop 6 a))) (view (b .held) ++ currentIn (b .current)))) ≡ true = lt-ltb _ _ (rw (landed-lines .long) at lt) in
+              let k : ltb 16 (length (uponAll (events (readTail (drop restPlace a))) (view (b .held) ++ currentIn (b .current)))) ≡ true = lt-ltb _ _ (rw (landed-lines .long) at lt) in
               gives-no 16 (omega arith) (rw (c, threw m, landed-part, leaves n, k))
 
           pub lands-0 : t .lines .len ≤ 16
-              → Lands b kind (readTail (drop 6 a)) (record { part = 0; book = record { held = t .lines; current = Idle; begun = b .begun; tally = b .tally } })
+              → Lands b kind (readTail (drop restPlace a)) (record { part = 0; book = record { held = t .lines; current = Idle; begun = b .begun; tally = b .tally } })
           unfolding first
           lands-0 le =
-              let k : ltb 16 (length (uponAll (events (readTail (drop 6 a))) (view (b .held) ++ currentIn (b .current)))) ≡ false = le-ltb _ _ (rw (landed-lines .long) at le) in
+              let k : ltb 16 (length (uponAll (events (readTail (drop restPlace a))) (view (b .held) ++ currentIn (b .current)))) ≡ false = le-ltb _ _ (rw (landed-lines .long) at le) in
               gives-yes (rw (c, threw m, landed-part, leaves n, k)) (record { held = landed-lines; few = le; current = refl; begun = refl; tally = refl })
 
 -- ---- the kinds that hold a tail alone
 
 module _ (b : Book) (r : List ℕ) (kind : ℕ) (t : Tail) (h : Heard) where
-  pub done-7 : kind ≡ 7 → Ends b t h → Judged b r (Reply.Done kind t) h
+  pub done-7 : kind ≡ endKind → Ends b t h → Judged b r (Reply.Done kind t) h
   unfolding replyPart tell
   done-7 k g = rw k g
 
-  pub done-8 : kind ≡ 8 → Abandons b t h → Judged b r (Reply.Done kind t) h
+  pub done-8 : kind ≡ abandonKind → Abandons b t h → Judged b r (Reply.Done kind t) h
   unfolding replyPart tell
   done-8 k g = rw k g
 
-  pub done-else : (kind ≡ 7 → ⊥) → (kind ≡ 8 → ⊥) → Lands b kind t h → Judged b r (Reply.Done kind t) h
+  pub done-else : (kind ≡ endKind → ⊥) → (kind ≡ abandonKind → ⊥) → Lands b kind t h → Judged b r (Reply.Done kind t) h
   unfolding replyPart tell
-  done-else n m g = rw (ne-eqb kind 7 n, ne-eqb kind 8 m) g
+  done-else n m g = rw (ne-eqb kind endKind n, ne-eqb kind abandonKind m) g
 
 -- ---- lists and refusals
 

@@ -1,9 +1,10 @@
 -- The events of a tail where they lie in the bytes.
-use Prim.Native.Nat.{ℕ, zero, suc, _+_}
+use Prim.Native.Nat.{ℕ, zero, suc, _+_, _*_}
 use mathlib.Core.Path.{_≡_}
 use mathlib.Core.List.{List, [], _∷_, map}
 use lib.ListN.{drop}
 use Rattle.paper.specs.Numbers.{u8, u32, i32, aSerial, aSurface}
+use Rattle.paper.specs.Kinds.{wordWidth, shownWidth}
 use Rattle.paper.specs.Ledger.{Event, Hand, Throw, Free, readShown, readWords, uponAll}
 use Rattle.paper.specs.Watch.{tailPart}
 use Rattle.paper.specs.declared.Shown.{Shown}
@@ -23,7 +24,7 @@ eventIn (said.Free x) = Free x
 
 -- "serial u32, surface u32, POC i32"
 abbrev pub shownAt : List ℕ → ℕ → Shown
-shownAt r at = record { serial = aSerial (u32 r at); surface = aSurface (u32 r (at + 4)); poc = i32 r (at + 8) }
+shownAt r at = record { serial = aSerial (u32 r at); surface = aSurface (u32 r (at + wordWidth)); poc = i32 r (at + 2 * wordWidth) }
 
 unfoldable pub eventAt : Part → List ℕ → ℕ → Event
 eventAt Handed r at = Hand (shownAt r at)
@@ -31,9 +32,9 @@ eventAt Thrown r at = Throw (aSerial (u32 r at))
 eventAt Released r at = Free (aSurface (u32 r at))
 
 unfoldable pub sizeOf : Part → ℕ
-sizeOf Handed = 12
-sizeOf Thrown = 4
-sizeOf Released = 4
+sizeOf Handed = shownWidth
+sizeOf Thrown = wordWidth
+sizeOf Released = wordWidth
 
 -- n events of one part
 unfoldable pub eventsOf : Part → ℕ → List ℕ → List Event

@@ -7,6 +7,7 @@ use lib.ListN.{drop}
 use lib.Dec.{eqb}
 use Rattle.paper.specs.Words.{_gives_, first, anyB}
 use Rattle.paper.specs.Numbers.{missing, sameSerial}
+use Rattle.paper.specs.Kinds.{restPlace, wordWidth, membersPlace}
 use Rattle.paper.specs.Output.{Tail}
 use Rattle.paper.specs.Replies.{Reply}
 use Rattle.paper.specs.Ledger.{Ledger, readBegun, readTail, readSerials, clearing, names, tell, unchanged, abandoned, landed}
@@ -34,8 +35,8 @@ calls H n = sameSerial n missing || anyB (named n) H
 -- the last two parts of a begin whose reply has n members, of the lines that its tail leaves
 abbrev pub leftPart : List Line → List ℕ → ℕ → ℕ
 leftPart H a n =
-    first (not (clearing (readBegun (drop 6 a)) (readTail (drop (20 + 4 * n) a)) H) gives 19
-    ∷ not (names (readSerials n (drop 20 a)) H) gives 12
+    first (not (clearing (readBegun (drop restPlace a)) (readTail (drop (membersPlace + wordWidth * n) a)) H) gives 19
+    ∷ not (names (readSerials n (drop membersPlace a)) H) gives 12
     ∷ [])
 
 -- the part, and the book after it where the part is 0

@@ -6,13 +6,13 @@ use mathlib.Core.Bool.{true, _||_}
 use lib.ListN.{length, take, drop}
 use lib.Dec.{eqb}
 use Rattle.paper.specs.Words.{allB}
-use Rattle.framing.specs.Cut.{sizeOf, isWhole, joined}
+use Rattle.format.specs.Cut.{sizeOf, isWhole, joined}
 use Rattle.paper.specs.Ledger.{Ledger, readReply}
 use Rattle.paper.specs.Watch.{watched}
 use Rattle.watch.specs.Book.{bookIn, HoldsBook, tallied}
 use Rattle.watch.specs.declared.Tally.{Tally}
 use Rattle.watch.specs.declared.Book.{Book}
-use Rattle.watch.specs.declared.pairing.Paired.{Paired}
+use Rattle.watch.specs.declared.exchanges.Paired.{Paired}
 
 -- the tally with what all these replies tell
 unfoldable pub tallyAll : Tally → List (List ℕ) → Tally

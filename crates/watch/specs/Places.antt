@@ -2,13 +2,14 @@
 use Prim.Native.Nat.{ℕ, _-_, _*_}
 use mathlib.Core.List.{List}
 use lib.ListN.{drop}
-use Rattle.paper.specs.Numbers.{u16}
+use Rattle.paper.specs.Kinds.{replyOffset, restPlace, wordWidth, begunMembers}
+use Rattle.paper.specs.Records.{kindOf}
 use Rattle.paper.specs.Replies.{Reply}
 use Rattle.paper.specs.Ledger.{readBegun, readTail, setWords}
 
 -- what `readReply` reads of an accepted begin, and of the kinds that hold a tail alone
 abbrev pub startedIn : List ℕ → Reply
-startedIn a = Reply.Started (readBegun (drop 6 a)) (readTail (drop (4 * setWords (drop 6 a)) (drop 14 (drop 6 a))))
+startedIn a = Reply.Started (readBegun (drop restPlace a)) (readTail (drop (wordWidth * setWords (drop restPlace a)) (drop begunMembers (drop restPlace a))))
 
 abbrev pub doneIn : List ℕ → Reply
-doneIn a = Reply.Done (u16 a 2 - 256) (readTail (drop 6 a))
+doneIn a = Reply.Done (kindOf a - replyOffset) (readTail (drop restPlace a))

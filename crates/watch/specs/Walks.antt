@@ -5,10 +5,10 @@ use Rattle.paper.specs.Ledger.{waitsAs, waits, lies, off}
 use Rattle.paper.specs.declared.Serial.{Serial}
 use Rattle.paper.specs.declared.Surface.{Surface}
 use Rattle.paper.specs.declared.Line.{Line}
-use Rattle.watch.specs.declared.tests.Ask.{Ask}
-use Rattle.watch.specs.declared.tests.Ask.the-variants.{Waits, WaitsAs, Lies, WaitsAt, Named}
-use Rattle.watch.specs.declared.tests.Change.{Change}
-use Rattle.watch.specs.declared.tests.Change.the-variants.{Same, Off}
+use Rattle.watch.specs.declared.line.Ask.{Ask}
+use Rattle.watch.specs.declared.line.Ask.the-variants.{Waits, WaitsAs, Lies, WaitsAt, Named}
+use Rattle.watch.specs.declared.line.Change.{Change}
+use Rattle.watch.specs.declared.line.Change.the-variants.{Same, Off}
 
 abbrev pub named : Serial → Line → Bool
 named n e = eqb (n .0) (e .serial .0)

@@ -1,12 +1,12 @@
 // What a tail tells, event by event, read where it lies in the reply.
 use crate::Lines;
-use crate::tests::Ask;
-use crate::tests::Change;
-use crate::walking::change_all;
-use crate::walking::freed;
-use crate::walking::has_any;
-use framing::behind;
-use framing::thrown_at;
+use crate::held::change_all;
+use crate::held::freed;
+use crate::held::has_any;
+use crate::line::Ask;
+use crate::line::Change;
+use format::behind;
+use format::kinds;
 use paper::Serial;
 use paper::Shown;
 use paper::Surface;
@@ -14,6 +14,7 @@ ghost use mathlib.Core.Path.{_≡_};
 ghost use Prim.Native.Nat.{_+_, _*_, _≤_, _<_};
 ghost use lib.ListN.{length, drop};
 ghost use Rattle.paper.specs.Numbers.{u8, u32, i32, aSerial, aSurface};
+ghost use Rattle.paper.specs.Kinds.{shownWidth};
 ghost use Rattle.paper.specs.Ledger.{upon, events, readTail, Hand, Throw, Free};
 ghost use Rattle.paper.specs.Watch.{eventPart};
 ghost use Rattle.watch.specs.Book.{Holds, view, Good};
@@ -46,8 +47,8 @@ fn shown_at(reply: &[u8], at: usize) -> Shown
 {
     Shown {
         serial: Serial(wire::u32_at(reply, at)),
-        surface: Surface(wire::u32_at(reply, at + 4)),
-        poc: wire::i32_at(reply, at + 8),
+        surface: Surface(wire::u32_at(reply, at + kinds::SHOWN_SURFACE)),
+        poc: wire::i32_at(reply, at + kinds::SHOWN_POC),
     }
 }
 
@@ -65,12 +66,12 @@ fn event_at(p: Part, reply: &[u8], at: usize) -> Event
 
 // How many bytes an event of this part has.
 fn size(p: Part) -> usize
-    ensures { λ r. ⌜ (r ≡ sizeOf p) × (r ≤ 12) ⌝ }
+    ensures { λ r. ⌜ (r ≡ sizeOf p) × (r ≤ shownWidth) ⌝ }
 {
     match p {
-        Part::Handed => 12,
-        Part::Thrown => 4,
-        Part::Released => 4,
+        Part::Handed => kinds::SHOWN,
+        Part::Thrown => kinds::WORD,
+        Part::Released => kinds::WORD,
     }
 }
 
@@ -172,13 +173,13 @@ pub(crate) fn tail(l: Lines, reply: &[u8], at: usize) -> Told
     if a.part != 0 {
         return a;
     }
-    let second = thrown_at(reply, at);
+    let second = behind(reply, at, kinds::SHOWN_WIDTH);
     let x = a.lines;
     let b = run_counted(x, Part::Thrown, reply, second);
     if b.part != 0 {
         return b;
     }
-    let third = behind(reply, second);
+    let third = behind(reply, second, kinds::WORD_WIDTH);
     let y = b.lines;
     run_counted(y, Part::Released, reply, third)
 }

@@ -1,22 +1,24 @@
-// A tenant's check of demand 3, from records and replies alone: the ledger of document 01's demand in arrays of fixed size. It judges the replies of any
-// session, so nothing is asked of them, nor of the book: a length over the greatest capacity, 16, counts as that.
-mod counting;
+// A tenant's check of demand 3, from records and replies alone: the ledger of document 01's demand in arrays of fixed
+// size. It judges the replies of any session, so nothing is asked of them, nor of the book: a length over the greatest
+// capacity, 16, counts as that.
 mod events;
-mod judging;
-mod pairing;
-mod reading;
-mod tests;
-mod walking;
+mod exchanges;
+mod held;
+mod line;
+mod parts;
+mod replies;
+mod totals;
 
-pub use counting::current;
-pub use counting::surfaces;
-pub use counting::waiting;
-pub use pairing::Paired;
-pub use pairing::hear_all;
+pub use exchanges::Paired;
+pub use exchanges::hear_all;
 use paper::Line;
 use paper::Serial;
 use paper::Surface;
+pub use replies::plus;
 use store::Store;
+pub use totals::current;
+pub use totals::surfaces;
+pub use totals::waiting;
 ghost use mathlib.Core.List.{[]};
 ghost use Rattle.paper.specs.Ledger.{blank};
 ghost use Rattle.watch.specs.Book.{Holds, HoldsBook, noTally};
@@ -34,14 +36,16 @@ pub enum Slot {
     Is(Line),
 }
 
-// How many pictures were handed out and thrown away, and how many accepted lists were checked; each stops at the greatest value.
+// How many pictures were handed out and thrown away, and how many accepted lists were checked; each stops at the
+// greatest value.
 pub struct Tally {
     pub handed: u64,
     pub thrown: u64,
     pub lists: u64,
 }
 
-// What somebody knows who has seen the records and the replies: the pictures stored, the current one, how many were begun, and the tally.
+// What somebody knows who has seen the records and the replies: the pictures stored, the current one, how many were
+// begun, and the tally.
 pub struct Book {
     pub held: Lines,
     pub current: Slot,
@@ -93,17 +97,18 @@ impl Book {
     }
 }
 
-// One exchange: the first part of demand 3 that it breaks, or 0 and the book after it. A broken exchange leaves the book as it was.
+// One exchange: the first part of demand 3 that it breaks, or 0 and the book after it. A broken exchange leaves the
+// book as it was.
 pub fn hear(b: Book, msg: &[u8], reply: &[u8]) -> Heard
     ensures { λ r. ⌜ Hears b (now (msg .entry)) (now (reply .entry)) r ⌝ }
 {
-    if !framing::is_whole(reply) {
+    if !format::is_whole(reply) {
         return Heard { part: 1, book: b };
     }
-    if !reading::answers(msg, reply) {
+    if !replies::answers(msg, reply) {
         return Heard { part: 2, book: b };
     }
-    let j = judging::judge(walking::tidy(b), msg, reply);
+    let j = parts::judge(held::tidy(b), msg, reply);
     if j.part != 0 {
         return Heard {
             part: j.part,
@@ -111,6 +116,6 @@ pub fn hear(b: Book, msg: &[u8], reply: &[u8]) -> Heard
         };
     }
     let k = j.book;
-    let book = reading::counted(k, reply);
+    let book = replies::counted(k, reply);
     Heard { part: 0, book }
 }

@@ -1,12 +1,12 @@
 // "All numbers little-endian": numbers read from and written to lent bytes.
 ghost use mathlib.Core.Path.{_≡_};
-ghost use Prim.Native.Nat.{_+_, _-_, _*_, _≤_};
+ghost use Prim.Native.Nat.{_+_, _*_, _≤_};
 ghost use lib.ListN.{length};
 ghost use lib.Seq.{sets};
 ghost use mathlib.Core.List.{[], _∷_};
 ghost use mir.Val.{toZ, ofZ};
 ghost use mir.Syntax.{w32};
-ghost use Rattle.paper.specs.Numbers.{u8, u16, u32, i32, bytes16, bytes32};
+ghost use Rattle.paper.specs.Numbers.{u8, u16, u32, u64, i32, bytes16, bytes32, bytes64};
 
 // The byte at a place, and 0 past the end: nothing is asked of the caller.
 pub fn byte(s: &[u8], at: usize) -> u8
@@ -29,36 +29,50 @@ fn whole(lo: u16, hi: u16) -> u32
     (lo as u32) + 65536 * (hi as u32)
 }
 
-// How many bytes there are from a place on.
-fn left(s: &[u8], at: usize) -> usize
-    ensures { λ r. ⌜ r ≡ length (now (s .entry)) - at ⌝ }
-{
-    let n = s.len();
-    if at < n { n - at } else { 0 }
-}
+// No slice is longer, and a place below it and a few more do not overflow.
+const BEYOND: usize = 0x8000_0000_0000_0000;
 
 // The u16 at a place. One test is enough where both bytes are there.
 pub fn u16_at(s: &[u8], at: usize) -> u16
     ensures { λ r. ⌜ r ≡ u16 (now (s .entry)) at ⌝ }
 {
-    if 2 <= left(s, at) {
-        return half(s[at], s[at + 1]);
+    if at < BEYOND {
+        if at + 2 <= s.len() {
+            return half(s[at], s[at + 1]);
+        }
+        return half(byte(s, at), 0);
     }
-    half(byte(s, at), 0)
+    0
 }
 
 // The u32 at a place. One test is enough where all four bytes are there.
 pub fn u32_at(s: &[u8], at: usize) -> u32
     ensures { λ r. ⌜ r ≡ u32 (now (s .entry)) at ⌝ }
 {
-    let n = left(s, at);
-    if 4 <= n {
-        return whole(half(s[at], s[at + 1]), half(s[at + 2], s[at + 2 + 1]));
-    }
-    if 2 < n {
+    if at < BEYOND {
+        if at + 4 <= s.len() {
+            return whole(half(s[at], s[at + 1]), half(s[at + 2], s[at + 2 + 1]));
+        }
         return whole(u16_at(s, at), u16_at(s, at + 2));
     }
-    whole(u16_at(s, at), 0)
+    0
+}
+
+// A number of 64 bits from two halves, the lower first.
+fn wide(lo: u32, hi: u32) -> u64
+    ensures { λ r. ⌜ r ≡ lo + 4294967296 * hi ⌝ }
+{
+    (lo as u64) + 4294967296 * (hi as u64)
+}
+
+// The u64 at a place.
+pub fn u64_at(s: &[u8], at: usize) -> u64
+    ensures { λ r. ⌜ r ≡ u64 (now (s .entry)) at ⌝ }
+{
+    if at < BEYOND {
+        return wide(u32_at(s, at), u32_at(s, at + 4));
+    }
+    0
 }
 
 // The number whose two's complement these 32 bits are.
@@ -119,4 +133,13 @@ pub fn put_u32(d: &mut [u8], at: usize, x: u32) -> usize
     d[at + 2] = (x / 65536 % 256) as u8;
     d[at + 3] = (x / 16777216 % 256) as u8;
     at + 4
+}
+
+// Writes eight bytes, the lowest first, and gives the place behind them.
+pub fn put_u64(d: &mut [u8], at: usize, x: u64) -> usize
+    requires { ⌜ at + 8 ≤ length (now d) ⌝ }
+    ensures { λ r. ⌜ (r ≡ at + 8) × (now (d .exit) ≡ sets (now (d .entry)) at (bytes64 x)) ⌝ }
+{
+    let half = put_u32(d, at, (x % 4294967296) as u32);
+    put_u32(d, half, (x / 4294967296) as u32)
 }

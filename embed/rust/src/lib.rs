@@ -1,5 +1,6 @@
-//! A picture session (H.265 reference marks, sets, lists, output order): byte records in, byte replies out. The session itself is proved; this crate is the safe
-//! way to it from Rust. docs/01-scope.md has the records, the replies and the refusal numbers.
+//! A picture session (H.265 reference marks, sets, lists, output order): byte records in, byte replies out. The session
+//! itself is proved; this crate is the safe way to it from Rust. docs/01-scope.md has the records, the replies and the
+//! refusal numbers.
 //!
 //! ```no_run
 //! let mut session = trusshemp::Session::new();
@@ -78,7 +79,8 @@ impl Session {
     /// One call. A refused record leaves the session as it was, and the buffer behind the reply is left as it was.
     pub fn step(&mut self, record: &[u8], reply: &mut [u8]) -> Answer {
         let mut len = 0;
-        // SAFETY: each pointer comes from a reference, with the length of what it refers to; the references do not overlap, for all but the record's are `&mut`.
+        // SAFETY: each pointer comes from a reference, with the length of what it refers to; the references do not
+        // overlap, for all but the record's are `&mut`.
         let number = unsafe {
             trusshemp_step_in(
                 &mut self.head,

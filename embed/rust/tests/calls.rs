@@ -1,4 +1,5 @@
-//! The recordings of vectors/ and examples/ and the promises of the header, through the safe crate. TRUSSHEMP_CALLS is the folder that calls.py wrote.
+//! The recordings of recordings/vectors and recordings/examples and the promises of the header, through the safe crate.
+//! TRUSSHEMP_CALLS is the folder that calls.py wrote.
 use std::fs;
 use trusshemp::{session_size, Answer, Session, REPLY, WORDS};
 

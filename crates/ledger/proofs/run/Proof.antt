@@ -7,7 +7,7 @@ use mathlib.Core.Bool.{true}
 use lib.ListN.{length}
 use mir.Facts.{toZ-ofZ}
 use Rattle.paper.proofs.Ways.{yes-of}
-use Rattle.framing.proofs.Running.{Reached, starts, one-turn}
+use Rattle.stream.proofs.Running.{Reached, starts, one-turn}
 use Rattle.ledger.specs.Turns.{Starts, Turning, standing}
 use Rattle.ledger.proofs.Running.{judges}
 use Rattle.ledger.proofs.run.Statement.{statement}

@@ -1,9 +1,7 @@
 -- What is taken lies within what is held, so the rest can be moved to the start. Where nothing is taken no exchange is whole.
-use native.Mathlib.Omega.{arith}
-use mathlib.Core.Path.{sym, _∙_}
+use mathlib.Core.Path.{sym}
 use lib.Seq.{length-take-le}
-use Rattle.framing.proofs.Fitting.{within}
-use Rattle.framing.proofs.Keeping.{shifted-within}
+use Rattle.format.proofs.Fitting.{within}
 use Rattle.ledger.proofs.Turning.{starved}
 use Rattle.ledger.proofs.Taking.{none-taken, takes}
 use borrow.Author.Needs.{needs}
@@ -36,10 +34,11 @@ same-length-2 c = search needs
 
 returns : tie.Need-returns
 returns c =
-    let s = c .before .before .before .before .before .before .before .before .before .before .before .before .before .before .before .before in
-    let a = s .args in
-    let z = none-taken (a .s) (a .records .now) (a .replies .now) (s .pre .0) (s .pre .1) (c .before .before .before .before .before .before .before .before .hear-all .ensures) (c .before .before .before .before .before .before .before .if1 .taken) in
-    starved (a .s) (a .records .now) (a .replies .now) (s .pre .0) (s .pre .1) z (c .before .before .before .before .starve .ensures)
+    let call = c .before .before .before .before .before .before .before .before in
+    let st = call .before .before .before .before .before .before .before .before in
+    let a = st .args in
+    let z = none-taken (a .s) (a .records .now) (a .replies .now) (st .pre .0) (st .pre .1) (call .hear-all .ensures) (c .before .before .before .before .before .before .before .if1 .taken) in
+    starved (a .s) (a .records .now) (a .replies .now) (st .pre .0) (st .pre .1) z (c .before .before .before .before .starve .ensures)
 
 shift-requires : tie.Need-shift-requires
 shift-requires c κs = search needs
@@ -48,10 +47,16 @@ shift-requires-2 : tie.Need-shift-requires-2
 shift-requires-2 c κs = search needs
 
 without-requires : tie.Need-without-requires
-without-requires c κs = let s = c .before .before .before .before .before .before .before .before .before .before .before .before .before .before .before .before .before .before in within (s .args .s .records .held) (s .args .records .now) (s .pre .0) (c .before .before .before .before .before .before .before .before .before .before .hear-all .ensures .taken)
+without-requires c κs =
+    let call = c .before .before .before .before .before .before .before .before .before .before in
+    let st = call .before .before .before .before .before .before .before .before in
+    within (st .args .s .records .held) (st .args .records .now) (st .pre .0) (call .hear-all .ensures .taken)
 
 without-requires-2 : tie.Need-without-requires-2
-without-requires-2 c κs = let s = c .before .before .before .before .before .before .before .before .before .before .before .before .before .before .before .before .before .before .before in within (s .args .s .replies .held) (s .args .replies .now) (s .pre .1) (c .before .before .before .before .before .before .before .before .before .before .before .hear-all .ensures .answered)
+without-requires-2 c κs =
+    let call = c .before .before .before .before .before .before .before .before .before .before .before in
+    let st = call .before .before .before .before .before .before .before .before in
+    within (st .args .s .replies .held) (st .args .replies .now) (st .pre .1) (call .hear-all .ensures .answered)
 
 plus-requires : tie.Need-plus-requires
 plus-requires c κs = search needs
@@ -64,13 +69,14 @@ same-length-4 c = search needs
 
 returns-2 : tie.Need-returns-2
 returns-2 c =
-    let s = c .before .before .before .before .before .before .before .before .before .before .before .before .before .before .before .before .before .before .before .before .before .before in
-    let a = s .args in
-    let p = c .before .before .before .before .before .before .before .before .before .before .before .before .before .before .hear-all in
-    let e = c .before .before .before .before .before .before .before .before .before .before .before .shift .ensures ∙ shifted-within (a .records .now) (p .result .taken) (a .s .records .held) (s .pre .0) in
-    let f = c .before .before .before .before .before .before .before .shift2 .ensures ∙ shifted-within (a .replies .now) (p .result .answered) (a .s .replies .held) (s .pre .1) in
+    let moved = c .before .before .before .before .before .before .before in
+    let first = moved .before .before .before .before in
+    let tested = first .before .before in
+    let call = tested .before in
+    let st = call .before .before .before .before .before .before .before .before in
+    let a = st .args in
     rw (c .before .plus .ensures, c .before .before .before .without .ensures, c .before .before .without2 .ensures)
-    (takes (a .s) (a .records .now) (a .replies .now) (s .pre .0) (s .pre .1) (p .ensures) e f (c .before .before .before .before .before .before .before .before .before .before .before .before .before .if1 .left))
+    (takes (a .s) (a .records .now) (a .replies .now) (st .pre .0) (st .pre .1) (call .hear-all .ensures) (first .shift .ensures) (moved .shift2 .ensures) (tested .if1 .left))
 
 pub turn-spec : {M : Type 1} → statement M
 turn-spec =

@@ -7,7 +7,7 @@ use lib.ListN.{length}
 use Rattle.session.specs.View.{memory}
 use Rattle.replay.specs.Answers.{Answers}
 use Rattle.replay.proofs.Answering.{nothing-yet, one-answered}
-use Rattle.framing.proofs.Fitting.{size-at, size-end}
+use Rattle.format.proofs.Fitting.{size-at, size-end}
 use Rattle.replay.proofs.answer.Statement.{statement}
 use Rattle.replay.proofs.answer.Tie as tie
 

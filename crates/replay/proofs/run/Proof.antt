@@ -7,7 +7,7 @@ use borrow.Author.Needs.{needs}
 use lib.ListN.{length}
 use Rattle.paper.proofs.Ways.{yes-of}
 use Rattle.session.specs.View.{memory}
-use Rattle.framing.proofs.Running.{Reached, starts, one-turn}
+use Rattle.stream.proofs.Running.{Reached, starts, one-turn}
 use Rattle.replay.specs.Turns.{standing, Starts, Turns}
 use Rattle.replay.proofs.Running.{replays}
 use Rattle.replay.proofs.run.Statement.{statement}

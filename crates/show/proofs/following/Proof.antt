@@ -1,3 +1,4 @@
+-- `following`: the next number, or the greatest where there is none.
 use borrow.Author.Needs.{needs}
 use borrow.Author.Tests.{lt-ltb, le-ltb}
 use Rattle.show.proofs.following.Statement.{statement}

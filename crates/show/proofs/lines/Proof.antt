@@ -6,7 +6,7 @@ use borrow.Author.Needs.{needs}
 use lib.ListN.{length}
 use Rattle.show.specs.Stream.{Lines}
 use Rattle.show.proofs.Lining.{nothing-yet, one-lined}
-use Rattle.framing.proofs.Fitting.{size-at, size-end}
+use Rattle.format.proofs.Fitting.{size-at, size-end}
 use Rattle.show.proofs.lines.Statement.{statement}
 use Rattle.show.proofs.lines.Tie as tie
 

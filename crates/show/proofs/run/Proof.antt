@@ -6,7 +6,7 @@ use native.Mathlib.Omega.{arith}
 use borrow.Author.Needs.{needs}
 use lib.ListN.{length}
 use Rattle.paper.proofs.Ways.{yes-of}
-use Rattle.framing.proofs.Running.{Reached, starts, one-turn}
+use Rattle.stream.proofs.Running.{Reached, starts, one-turn}
 use Rattle.show.specs.Turns.{standing, Starts, Turns}
 use Rattle.show.proofs.Running.{shows}
 use Rattle.show.proofs.run.Statement.{statement}

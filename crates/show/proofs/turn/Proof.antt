@@ -1,13 +1,12 @@
 -- What is taken and what is written lies within the buffers, so the rest of the input can be moved to the start. Where nothing is taken no reply is whole,
 -- so what waits is shorter than the input buffer.
-use mathlib.Core.Path.{_≡_, sym, _∙_}
+use mathlib.Core.Path.{_≡_, sym}
 use native.Mathlib.Omega.{arith}
 use borrow.Author.Needs.{needs}
-use lib.ListN.{length}
+use lib.ListN.{length, take}
 use lib.Seq.{length-take-le}
-use Rattle.show.proofs.Lining.{no-size, room-left, none-written}
-use Rattle.framing.proofs.Fitting.{within}
-use Rattle.framing.proofs.Keeping.{shifted-within}
+use Rattle.show.proofs.Lining.{none-written}
+use Rattle.format.proofs.Fitting.{within, no-size, room-left}
 use Rattle.show.proofs.Turning.{waited, lined}
 use Rattle.show.proofs.turn.Statement.{statement}
 use Rattle.show.proofs.turn.Tie as tie
@@ -22,15 +21,10 @@ lines-requires : tie.Need-lines-requires
 lines-requires c κs = search needs
 
 read-on-requires : tie.Need-read-on-requires
-read-on-requires c κs =
-    let st = c .before .before .before .before .before .before .before .before .before .before in
-    let a = c .before .before .before .before .before .lines in
-    let e : length (a .last .1 .1 .0) ≡ length (st .args .output .now) = a .kept .1 .1 .0 in
-    let p = st .pre in (
-      room-left (st .args .held) (a .result .taken) (a .result .made) (st .args .input .now) (a .last .1 .1 .0) (c .before .before .if1 .taken) (a .ensures .1 .0) (a .ensures .1 .1)
-          (omega (arith, e, p)) (λ k. c .before .before .before .before .before .before .before .before .before .slice-known .given k .fits) (p .1 .0) (p .0),
-      omega (arith, e, p),
-    )
+read-on-requires c κs = search needs
+
+fed-requires : tie.Need-fed-requires
+fed-requires c κs = search needs
 
 same-length : tie.Need-same-length
 same-length c = search needs
@@ -40,13 +34,25 @@ same-length-2 c = search needs
 
 returns : tie.Need-returns
 returns c =
-    let st = c .before .before .before .before .before .before .before .before .before .before .before .before .before .before .before in
-    let a = c .before .before .before .before .before .before .before .before .before .before .lines in
-    let e : length (a .last .1 .1 .0) ≡ length (st .args .output .now) = a .kept .1 .1 .0 in
+    let read = c .before .before .before .before .before .before in
+    let tested = read .before .before in
+    let call = tested .before .before .before in
+    let known = call .before .before .before .before in
+    let st = known .before in
     let p = st .pre in
-    let z = no-size (st .args .held) (a .result .taken) (a .result .made) (st .args .input .now) (a .last .1 .1 .0) (c .before .before .before .before .before .before .before .if1 .taken) (a .ensures .1 .0) (a .ensures .1 .1) (omega (arith, e, p)) in
-    let f = c .before .before .before .before .read-on .ensures in
-    (f .within, waited (st .args .held) (st .args .input .now) z (none-written (c .before .before .before .before .before .before .before .if1 .taken) (a .ensures .1 .0)) f)
+    let held = st .args .held in
+    let input = st .args .input .now in
+    let a = call .lines in
+    let output = a .last .1 .1 .0 in
+    let e : length output ≡ length (st .args .output .now) = a .kept .1 .1 .0 in
+    let none = tested .if1 .taken in
+    let g = a .ensures .1 .0 in
+    let w = none-written none g in
+    let z = no-size (take held input) output 28457 none (w .0) (omega (arith, e, p)) (a .ensures .1 .1) in
+    let h = room-left held input (λ k. known .slice-known .given k .fits) (p .1 .0) (p .0) z in
+    let f = read .read-on .ensures in
+    let t = c .before .before .fed .ensures in
+    (rw (t .same .1) (f .within (p .0)), waited held input z h (w .1) f t)
 
 slice-reshare-prefix-write-all : tie.Need-slice-reshare-prefix-write-all
 slice-reshare-prefix-write-all c = search needs
@@ -60,10 +66,11 @@ write-all-requires c κs = search needs
 shift-requires : tie.Need-shift-requires
 shift-requires c κs = search needs
 
-sub-t23 : tie.Need-sub-t23
-sub-t23 c =
-    let s = c .before .before .before .before .before .before .before .before .before .before .before .before .before .before in
-    within (s .args .held) (s .args .input .now) (s .pre .0) (c .before .before .before .before .before .before .before .before .before .lines .ensures .0 .0)
+sub-t24 : tie.Need-sub-t24
+sub-t24 c =
+    let call = c .before .before .before .before .before .before .before .before .before in
+    let st = call .before .before .before .before .before in
+    within (st .args .held) (st .args .input .now) (st .pre .0) (call .lines .ensures .0 .0)
 
 same-length-3 : tie.Need-same-length-3
 same-length-3 c = search needs
@@ -73,10 +80,11 @@ same-length-4 c = search needs
 
 returns-2 : tie.Need-returns-2
 returns-2 c =
-    let st = c .before .before .before .before .before .before .before .before .before .before .before .before .before .before in
-    let a = c .before .before .before .before .before .before .before .before .before .lines in
-    let w = within (st .args .held) (st .args .input .now) (st .pre .0) (a .ensures .0 .0) in
-    (search needs, lined (st .args .held) (st .args .input .now) _ (c .before .before .before .before .before .before .if1 .left) (st .pre .0) w (a .ensures .1 .0) (c .before .before .shift .ensures ∙ shifted-within (st .args .input .now) (a .result .taken) (st .args .held) (st .pre .0)))
+    let tested = c .before .before .before .before .before .before in
+    let call = tested .before .before .before in
+    let st = call .before .before .before .before .before in
+    let a = call .lines .ensures in
+    (search needs, lined (st .args .held) (st .args .input .now) _ (tested .if1 .left) (st .pre .0) (a .0 .0) (a .1 .0) (c .before .before .shift .ensures))
 
 pub turn-spec : {M : Type 1} → statement M
 turn-spec =
@@ -86,6 +94,7 @@ turn-spec =
     slice-aggregate-lines
     lines-requires
     read-on-requires
+    fed-requires
     same-length
     same-length-2
     returns
@@ -93,7 +102,7 @@ turn-spec =
     slice-aggregate-write-all
     write-all-requires
     shift-requires
-    sub-t23
+    sub-t24
     same-length-3
     same-length-4
     returns-2)

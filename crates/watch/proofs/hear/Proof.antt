@@ -3,7 +3,7 @@ use denote.Ref.{now}
 use native.Mathlib.Omega.{arith}
 use mathlib.Core.Path.{_≡_, _∙_, sym, refl}
 use Rattle.watch.proofs.Hearing.{hears-1, hears-2, tidied, hears-part, hears-0}
-use Rattle.watch.proofs.Parts.{flip, flop}
+use Rattle.watch.proofs.PartLaws.{flip, flop}
 use borrow.Author.Needs.{needs}
 use Rattle.watch.proofs.hear.Statement.{statement}
 use Rattle.watch.proofs.hear.Tie as tie

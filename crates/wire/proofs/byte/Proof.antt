@@ -1,3 +1,4 @@
+-- `byte`: within the bytes the one at the place, behind them 0, as `getD` says.
 use denote.Ref.{now}
 use mathlib.Core.Path.{sym}
 use lib.ListN.{List·getD-eq-default}

@@ -1,3 +1,4 @@
+-- `put_u16`: two stores one behind the other are the run of the two bytes.
 use mathlib.Core.Path.{refl}
 use native.Mathlib.Numerals.{add-one}
 use lib.ListN.{length-set}

@@ -1,3 +1,4 @@
+-- `put_u32`: four stores one behind the other are the run of the four bytes.
 use mathlib.Core.Path.{_≡_, refl}
 use Prim.Native.Nat.{_+_, suc}
 use native.Mathlib.Numerals.{add-one}

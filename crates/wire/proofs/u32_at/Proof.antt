@@ -1,18 +1,19 @@
--- All four bytes, or where fewer are left these: the bytes behind the last are 0.
+-- All four bytes, or where fewer are left these: the bytes behind the last are 0. No slice reaches the places behind.
 use denote.Ref.{now}
-use mathlib.Core.Path.{_≡_}
-use Prim.Native.Nat.{_+_}
-use lib.ListN.{List·getD-eq-default}
+use mathlib.Core.Path.{sym}
 use native.Mathlib.Omega.{arith}
-use Rattle.paper.specs.Numbers.{u8}
 use borrow.Author.Needs.{needs}
+use Rattle.wire.proofs.Laws.{none32}
 use Rattle.wire.proofs.u32_at.Statement.{statement}
 use Rattle.wire.proofs.u32_at.Tie as tie
 use Rattle.wire.proofs.u32_at.Reads as reads
 use Rattle.wire.proofs.u32_at.Lts as lts
+use Rattle.wire.proofs.half.Reads as half-reads
+use Rattle.wire.proofs.u16_at.Reads as u16-at-reads
+use Rattle.wire.proofs.whole.Reads as whole-reads
 
-left-requires : tie.Need-left-requires
-left-requires c κs = search needs
+add-if2 : tie.Need-add-if2
+add-if2 c = search needs
 
 shared-slice-read-half : tie.Need-shared-slice-read-half
 shared-slice-read-half c = search needs
@@ -65,24 +66,14 @@ whole-requires-2 c κs = search needs
 returns-2 : tie.Need-returns-2
 returns-2 c = search needs
 
-u16-at-requires-3 : tie.Need-u16-at-requires-3
-u16-at-requires-3 c κs = search needs
-
-whole-requires-3 : tie.Need-whole-requires-3
-whole-requires-3 c κs = search needs
-
 returns-3 : tie.Need-returns-3
-returns-3 c =
-    let a = c .before .before .before .before .before .before .args in
-    let e : u8 (now (a .s)) (a .at + 2) ≡ 0 = List·getD-eq-default (now (a .s)) 0 (omega arith) in
-    let f : u8 (now (a .s)) (a .at + 2 + 1) ≡ 0 = List·getD-eq-default (now (a .s)) 0 (omega arith) in
-    omega (arith, e, f)
+returns-3 c = let s = c .before .before in sym (none32 (now (s .args .s)) (s .args .at) (omega (arith, s .good)))
 
 pub u32-at-spec : {M : Type 1} → statement M
 u32-at-spec =
     tie.close
     (tie.spec
-    left-requires
+    add-if2
     shared-slice-read-half
     add-half
     shared-slice-read-half-2
@@ -100,6 +91,4 @@ u32-at-spec =
     u16-at-requires-2
     whole-requires-2
     returns-2
-    u16-at-requires-3
-    whole-requires-3
     returns-3)

@@ -71,10 +71,10 @@ use Rattle.store.proofs.lent.sought_at.Met as sought-thm
 use Rattle.store.proofs.lent.first_in.Symbol as first-def
 use Rattle.store.proofs.lent.first_in.Symbol.{name as #first}
 use Rattle.store.proofs.lent.first_in.Met as first-thm
-use Rattle.store.proofs.searching.member_of as member
-use Rattle.store.proofs.searching.member_of.Symbol as member-def
-use Rattle.store.proofs.searching.member_of.Symbol.{name as #member}
-use Rattle.store.proofs.searching.member_of.Met as member-thm
+use Rattle.store.proofs.searches.member_of as member
+use Rattle.store.proofs.searches.member_of.Symbol as member-def
+use Rattle.store.proofs.searches.member_of.Symbol.{name as #member}
+use Rattle.store.proofs.searches.member_of.Met as member-thm
 use Rattle.store.proofs.lent.find_members_in.Key.{name as #self}
 use Rattle.store.proofs.lent.find_members_in as f
 use Rattle.store.proofs.lent.find_members_in.Statement as stated
@@ -324,4 +324,4 @@ find-members-in-spec 𝓤 H 𝓜 𝓖 𝓡 =
     (self-meets 𝓤 H (𝓖 .A) (givenOf 𝓤 H 𝓜 𝓖) (𝓜 .mem) (𝓡 .run) (tablesOf 𝓤 H 𝓜 (tables 𝓤 H 𝓜 𝓡 code.env))
     (cited 𝓤 H (Wants 𝓤 H (𝓖 .A) (givenOf 𝓤 H 𝓜 𝓖) (𝓜 .mem) (𝓡 .run)) 𝓜 𝓡 code.env #sought sought-def.routine code.calls-store·lent·sought-at (sought-thm.met 𝓤 H 𝓜 𝓖 𝓡))
     (cited 𝓤 H (First 𝓤 H (𝓖 .A) (𝓜 .mem) (𝓡 .run)) 𝓜 𝓡 code.env #first first-def.routine code.calls-store·lent·first-in (first-thm.met 𝓤 H 𝓜 𝓖 𝓡))
-    (cited 𝓤 H (Member 𝓤 H (𝓖 .A) (givenOf 𝓤 H 𝓜 𝓖) (𝓜 .mem) (𝓡 .run)) 𝓜 𝓡 code.env #member member-def.routine code.calls-store·searching·member-of (member-thm.met 𝓤 H 𝓜 𝓖 𝓡)))
+    (cited 𝓤 H (Member 𝓤 H (𝓖 .A) (givenOf 𝓤 H 𝓜 𝓖) (𝓜 .mem) (𝓡 .run)) 𝓜 𝓡 code.env #member member-def.routine code.calls-store·searches·member-of (member-thm.met 𝓤 H 𝓜 𝓖 𝓡)))

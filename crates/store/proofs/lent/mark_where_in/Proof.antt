@@ -60,10 +60,10 @@ use Rattle.paper.proofs.Mark as E
 use Rattle.paper.proofs.Mark.Laws as E′
 use Rattle.paper.proofs.Serial as N
 use Rattle.paper.proofs.Serial.Laws as N′
-use Rattle.store.proofs.marking.is_among as g
-use Rattle.store.proofs.marking.is_among.Symbol as g-def
-use Rattle.store.proofs.marking.is_among.Symbol.{name as #g}
-use Rattle.store.proofs.marking.is_among.Met as g-thm
+use Rattle.store.proofs.marks.is_among as g
+use Rattle.store.proofs.marks.is_among.Symbol as g-def
+use Rattle.store.proofs.marks.is_among.Symbol.{name as #g}
+use Rattle.store.proofs.marks.is_among.Met as g-thm
 use Rattle.store.proofs.lent.mark_at.Symbol as h-def
 use Rattle.store.proofs.lent.mark_at.Symbol.{name as #h}
 use Rattle.store.proofs.lent.mark_at.Met as h-thm
@@ -292,5 +292,5 @@ mark-where-in-spec 𝓤 H 𝓜 𝓖 𝓡 =
     entered 𝓤 H (tripleOf 𝓤 H (𝓖 .A) f.signature (f.spec 𝓤 H (𝓖 .A) (𝓜 .mem) (𝓡 .run)))
     (tables 𝓤 H 𝓜 𝓡 code.env .C) (tables 𝓤 H 𝓜 𝓡 code.env .Λ) #self code.function (code.unfolded 𝓤 H 𝓜 𝓡)
     (self-meets 𝓤 H (𝓖 .A) (givenOf 𝓤 H 𝓜 𝓖) (𝓜 .mem) (𝓡 .run) (tablesOf 𝓤 H 𝓜 (tables 𝓤 H 𝓜 𝓡 code.env))
-    (cited 𝓤 H (Among 𝓤 H (𝓖 .A) (givenOf 𝓤 H 𝓜 𝓖) (𝓜 .mem) (𝓡 .run)) 𝓜 𝓡 code.env #g g-def.routine code.calls-store·marking·is-among (g-thm.met 𝓤 H 𝓜 𝓖 𝓡))
+    (cited 𝓤 H (Among 𝓤 H (𝓖 .A) (givenOf 𝓤 H 𝓜 𝓖) (𝓜 .mem) (𝓡 .run)) 𝓜 𝓡 code.env #g g-def.routine code.calls-store·marks·is-among (g-thm.met 𝓤 H 𝓜 𝓖 𝓡))
     (cited 𝓤 H (Marks 𝓤 H (𝓖 .A) (𝓜 .mem) (𝓡 .run)) 𝓜 𝓡 code.env #h h-def.routine code.calls-store·lent·mark-at (h-thm.met 𝓤 H 𝓜 𝓖 𝓡)))

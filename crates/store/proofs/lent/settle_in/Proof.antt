@@ -49,15 +49,15 @@ use Rattle.paper.specs.declared.Serial.{Serial}
 use Rattle.paper.specs.declared.Mark.the-variants.{Unmarked, LongTerm}
 use Rattle.derivation.specs.Lists.{blankSerial}
 use Rattle.store.specs.Runs.{longFound, longPlaces, allFound, allPlaces}
-use Rattle.store.specs.declared.setting.Settled.{Settled}
+use Rattle.store.specs.declared.sets.Settled.{Settled}
 use Rattle.paper.proofs.Picture as T
 use Rattle.paper.proofs.Picture.Laws as T′
 use Rattle.paper.proofs.Serial as N
 use Rattle.paper.proofs.Serial.Laws as N′
 use Rattle.paper.proofs.Mark as E
 use Rattle.paper.proofs.Mark.Laws as E′
-use Rattle.store.proofs.setting.Settled as P
-use Rattle.store.proofs.setting.Settled.Laws as P′
+use Rattle.store.proofs.sets.Settled as P
+use Rattle.store.proofs.sets.Settled.Laws as P′
 use Rattle.store.proofs.lent.find_members_in.Symbol as g-def
 use Rattle.store.proofs.lent.find_members_in.Symbol.{name as #g}
 use Rattle.store.proofs.lent.find_members_in.Met as g-thm

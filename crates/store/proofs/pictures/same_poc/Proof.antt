@@ -1,6 +1,6 @@
 -- Numbers are equal where their bits are.
 use mir.Syntax.{w32}
-use Rattle.store.proofs.Searches.{eqZ-bits}
+use Rattle.store.proofs.SearchLaws.{eqZ-bits}
 use Rattle.store.proofs.pictures.same_poc.Statement.{statement}
 use Rattle.store.proofs.pictures.same_poc.Tie as tie
 

@@ -1,7 +1,7 @@
--- By the two tests.
+-- `free_part`: the two tests of a released surface are the definition's, in its order.
 use mathlib.Core.Path.{_≡_, _∙_, sym, refl}
 use Rattle.watch.specs.Book.{view}
-use Rattle.watch.proofs.Parts.{flip, flop, free-10, free-11, free-0}
+use Rattle.watch.proofs.PartLaws.{flip, flop, free-10, free-11, free-0}
 use borrow.Author.Needs.{needs}
 use Rattle.watch.proofs.events.free_part.Statement.{statement}
 use Rattle.watch.proofs.events.free_part.Tie as tie

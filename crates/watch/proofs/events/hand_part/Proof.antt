@@ -1,7 +1,7 @@
--- By the two tests.
+-- `hand_part`: the two tests of a picture handed out are the definition's, in its order.
 use mathlib.Core.Path.{_≡_, _∙_, sym, refl}
 use Rattle.watch.specs.Book.{view}
-use Rattle.watch.proofs.Parts.{flip, flop, hand-6, hand-7, hand-0}
+use Rattle.watch.proofs.PartLaws.{flip, flop, hand-6, hand-7, hand-0}
 use borrow.Author.Needs.{needs}
 use Rattle.watch.proofs.events.hand_part.Statement.{statement}
 use Rattle.watch.proofs.events.hand_part.Tie as tie

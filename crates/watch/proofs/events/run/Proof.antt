@@ -1,8 +1,9 @@
 -- From here on the events give the part and the lines that all of them give.
 use denote.Ref.{now}
 use Rattle.derivation.proofs.Pad.{is-good, is-view}
-use Rattle.watch.proofs.Parts.{stops, run-stops, run-again, run-ends}
+use Rattle.watch.proofs.PartLaws.{stops, run-stops, run-again, run-ends}
 use Rattle.watch.specs.Events.{eventIn}
+use Rattle.paper.specs.Kinds.{shownWidth}
 use Rattle.paper.specs.Watch.{eventPart}
 use native.Mathlib.Omega.{arith}
 use mathlib.Core.List.{[]}
@@ -20,7 +21,7 @@ use Rattle.watch.proofs.events.run.Tie as tie
 abbrev Inv-loop : tie.InvT-loop
 Inv-loop p reply at n step lines₀ place₀ i₀ lines place i =
     (i ≤ n)
-    × ((place ≤ at + 12 * i)
+    × ((place ≤ at + shownWidth * i)
     × (Good lines
     × ((tailPart (eventsOf p (n - i) (drop place reply)) (view lines) ≡ tailPart (eventsOf p n (drop at reply)) (view lines₀))
     × (uponAll (eventsOf p (n - i) (drop place reply)) (view lines) ≡ uponAll (eventsOf p n (drop at reply)) (view lines₀)))))

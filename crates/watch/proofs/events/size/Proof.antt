@@ -1,4 +1,4 @@
--- By cases.
+-- `size`: the width of each kind of event, one by one.
 use mathlib.Core.Path.{refl}
 use native.Mathlib.Omega.{arith}
 use Rattle.watch.specs.Events.{sizeOf}

@@ -1,7 +1,7 @@
--- By the test.
+-- `throw_part`: the test of a picture thrown away is the definition's.
 use mathlib.Core.Path.{_≡_, _∙_, sym, refl}
 use Rattle.watch.specs.Book.{view}
-use Rattle.watch.proofs.Parts.{throw-8, throw-0}
+use Rattle.watch.proofs.PartLaws.{throw-8, throw-0}
 use borrow.Author.Needs.{needs}
 use Rattle.watch.proofs.events.throw_part.Statement.{statement}
 use Rattle.watch.proofs.events.throw_part.Tie as tie

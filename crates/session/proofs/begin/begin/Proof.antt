@@ -1,0 +1,224 @@
+-- `begin`: each way out is one law of the order of refusals, and what passes all of the tests is what `begin_inside` asks for.
+use mathlib.Core.Bool.{false, not}
+use mathlib.Core.Path.{_≡_, sym, ap, _∙_}
+use lib.Dec.{eqb}
+use borrow.Author.Tests.{eq-eqb, ne-eqb, not-false}
+use Rattle.paper.specs.declared.Limits.{Limits}
+use Rattle.paper.specs.declared.Serial.{Serial}
+use Rattle.paper.specs.Words.{anyB}
+use Rattle.paper.specs.Numbers.{missing}
+use Rattle.paper.specs.Records.{fieldsOf}
+use Rattle.paper.specs.State.{Session, isCurrent, modulus}
+use Rattle.paper.specs.Ranges.{beginRanges}
+use Rattle.paper.specs.Step.{heldBy}
+use Rattle.session.specs.declared.records.Head.{Head}
+use Rattle.session.proofs.Ways.{begin-1, begin-3, begin-5, begin-8, begin-7}
+use Rattle.session.proofs.Fronts.{is-now}
+use Rattle.session.proofs.Saying.{does-refuse}
+use Rattle.session.specs.View.{memory, sessionIn, frontIn}
+use denote.Ref.{now}
+use borrow.Author.Needs.{needs}
+use Rattle.session.proofs.begin.begin.Statement.{statement}
+use Rattle.session.proofs.begin.begin.Tie as tie
+
+abbrev session : tie.Start → Session
+session c = sessionIn (memory (now (c .args .head)) (now (c .args .run)) (now (c .args .places)))
+
+-- the place before each test, from the place behind it
+abbrev start : tie.Else1 → tie.Start
+start c = c .before .before .before .before .before
+
+abbrev before-3 : tie.Else2 → tie.Else1
+before-3 c = c .before .before .before
+
+abbrev before-5 : tie.After-begin-ranges → tie.Else2
+before-5 c = c .before .before .before .before
+
+abbrev before-8 : tie.After-next-serial → tie.Else3
+before-8 c = c .before .before
+
+abbrev before-7 : tie.After-holds-surface → tie.Else4
+before-7 c = c .before .before .before
+
+abbrev start-3 : tie.Else2 → tie.Start
+start-3 c = start (before-3 c)
+
+abbrev start-5 : tie.Else3 → tie.Start
+start-5 c = start-3 (before-5 (c .before))
+
+abbrev start-8 : tie.Else4 → tie.Start
+start-8 c = start-5 (before-8 (c .before .before))
+
+-- what the tests say
+set-up : (c : tie.Else1) → not (session (start c) .configured) ≡ false
+unfolding frontIn
+set-up c = ap not (sym (c .before .is-configured .ensures)) ∙ c .if1 .left
+
+idle : (c : tie.Else2) → isCurrent (session (start-3 c) .current) ≡ false
+unfolding frontIn
+idle c = is-now (now (start-3 c .args .head)) ∙ sym (c .before .is-busy .ensures) ∙ c .if2 .left
+
+ranges : (c : tie.After-begin-ranges) → c .begin-ranges .result ≡ beginRanges (modulus (session (start-3 (before-5 c)) .limits)) (fieldsOf (now (start-3 (before-5 c) .args .msg)))
+unfolding frontIn
+ranges c = c .begin-ranges .ensures ∙ ap (λ (l : Limits). beginRanges (modulus l) (fieldsOf (now (start-3 (before-5 c) .args .msg)))) (c .before .before .limits-in .ensures)
+
+within : (c : tie.Else3) → not (beginRanges (modulus (session (start-5 c) .limits)) (fieldsOf (now (start-5 c .args .msg)))) ≡ false
+within c = ap not (sym (ranges (c .before))) ∙ c .if3 .left
+
+last : (c : tie.After-next-serial) → eqb (session (start-5 (before-8 c)) .next) (missing .0) ≡ eqb (c .next-serial .result .0) (missing .0)
+unfolding frontIn
+last c = ap (λ (n : Serial). eqb (n .0) (missing .0)) (sym (c .next-serial .ensures))
+
+unspent : (c : tie.Else4) → eqb (session (start-8 c) .next) (missing .0) ≡ false
+unspent c = last (c .before .before) ∙ ne-eqb _ _ (c .if4 .left)
+
+held : (c : tie.After-holds-surface) → c .holds-surface .result ≡ anyB (heldBy (fieldsOf (now (start-8 (before-7 c) .args .msg)) .surface)) (session (start-8 (before-7 c)) .store)
+unfolding fieldsOf
+held c =
+    let b = before-8 (before-7 c .before .before) .before in
+    c .holds-surface .ensures ∙ ap (λ (h : Head). anyB (heldBy (h .surface)) (session (start-8 (before-7 c)) .store)) (b .before .head-of .ensures)
+
+is-configured-requires : tie.Need-is-configured-requires
+is-configured-requires c κs = search needs
+
+refuse-requires : tie.Need-refuse-requires
+refuse-requires c κs = search needs
+
+same-length : tie.Need-same-length
+same-length c = search needs
+
+returns : tie.Need-returns
+unfolding frontIn
+returns c =
+    let t = c .before .before .before .before in
+    let s = t .before .before .before .before .before in
+    does-refuse (begin-1 (session s) (fieldsOf (now (s .args .msg))) (ap not (sym (t .before .is-configured .ensures)) ∙ t .if1 .taken)) (c .before .before .refuse .ensures)
+
+is-busy-requires : tie.Need-is-busy-requires
+is-busy-requires c κs = search needs
+
+refuse-requires-2 : tie.Need-refuse-requires-2
+refuse-requires-2 c κs = search needs
+
+same-length-2 : tie.Need-same-length-2
+same-length-2 c = search needs
+
+returns-2 : tie.Need-returns-2
+unfolding frontIn
+returns-2 c =
+    let t = c .before .before .before .before in
+    let e = t .before .before .before in
+    let s = start e in
+    does-refuse (begin-3 (session s) (fieldsOf (now (s .args .msg))) (set-up e) (is-now (now (s .args .head)) ∙ sym (t .before .is-busy .ensures) ∙ t .if2 .taken)) (c .before .before .refuse2 .ensures)
+
+limits-in-requires : tie.Need-limits-in-requires
+limits-in-requires c κs = search needs
+
+head-of-requires : tie.Need-head-of-requires
+head-of-requires c κs = search needs
+
+begin-ranges-requires : tie.Need-begin-ranges-requires
+begin-ranges-requires c κs = search needs
+
+refuse-requires-3 : tie.Need-refuse-requires-3
+refuse-requires-3 c κs = search needs
+
+same-length-3 : tie.Need-same-length-3
+same-length-3 c = search needs
+
+returns-3 : tie.Need-returns-3
+returns-3 c =
+    let t = c .before .before .before .before in
+    let e = before-5 (t .before) in
+    let s = start-3 e in
+    does-refuse (begin-5 (session s) (fieldsOf (now (s .args .msg))) (set-up (before-3 e)) (idle e) (ap not (sym (ranges (t .before))) ∙ t .if3 .taken)) (c .before .before .refuse3 .ensures)
+
+next-serial-requires : tie.Need-next-serial-requires
+next-serial-requires c κs = search needs
+
+refuse-requires-4 : tie.Need-refuse-requires-4
+refuse-requires-4 c κs = search needs
+
+same-length-4 : tie.Need-same-length-4
+same-length-4 c = search needs
+
+returns-4 : tie.Need-returns-4
+returns-4 c =
+    let t = c .before .before .before .before in
+    let r = before-8 (t .before .before) in
+    let e = before-5 (r .before) in
+    let s = start-5 r in
+    does-refuse (begin-8 (session s) (fieldsOf (now (s .args .msg))) (set-up (before-3 e)) (idle e) (within r) (last (t .before .before) ∙ eq-eqb _ _ (t .if4 .taken))) (c .before .before .refuse4 .ensures)
+
+holds-surface-requires : tie.Need-holds-surface-requires
+holds-surface-requires c κs = search needs
+
+refuse-requires-5 : tie.Need-refuse-requires-5
+refuse-requires-5 c κs = search needs
+
+same-length-5 : tie.Need-same-length-5
+same-length-5 c = search needs
+
+returns-5 : tie.Need-returns-5
+returns-5 c =
+    let t = c .before .before .before .before in
+    let n = before-7 (t .before) in
+    let r = before-8 (n .before .before) in
+    let e = before-5 (r .before) in
+    let s = start-8 n in
+    does-refuse (begin-7 (session s) (fieldsOf (now (s .args .msg))) (set-up (before-3 e)) (idle e) (within r) (unspent n) (sym (held (t .before)) ∙ t .if5 .taken)) (c .before .before .refuse5 .ensures)
+
+begin-inside-requires : tie.Need-begin-inside-requires
+unfolding frontIn
+begin-inside-requires c κs =
+    let t = c .before .before .before .before in
+    let n = before-7 (t .before) in
+    let r = before-8 (n .before .before) in
+    let e = before-5 (r .before) in (
+      record {
+        limits = r .before .before .before .limits-in .ensures;
+        head = r .before .before .head-of .ensures;
+        configured = not-false _ (set-up (before-3 e));
+        idle = idle e;
+        ranges = not-false _ (within r);
+        roomy = unspent n;
+        free = sym (held (t .before)) ∙ t .if5 .left;
+      },
+      start-8 n .pre,
+    )
+
+same-length-6 : tie.Need-same-length-6
+same-length-6 c = search needs
+
+returns-6 : tie.Need-returns-6
+returns-6 c = c .before .before .begin-inside .ensures
+
+pub begin-spec : {M : Type 1} → statement M
+begin-spec =
+    tie.close
+    (tie.spec
+    is-configured-requires
+    refuse-requires
+    same-length
+    returns
+    is-busy-requires
+    refuse-requires-2
+    same-length-2
+    returns-2
+    limits-in-requires
+    head-of-requires
+    begin-ranges-requires
+    refuse-requires-3
+    same-length-3
+    returns-3
+    next-serial-requires
+    refuse-requires-4
+    same-length-4
+    returns-4
+    holds-surface-requires
+    refuse-requires-5
+    same-length-5
+    returns-5
+    begin-inside-requires
+    same-length-6
+    returns-6)

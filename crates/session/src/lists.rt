@@ -1,0 +1,273 @@
+// Lists: its refusals in their order, and the two reference lists (8.3.4).
+use crate::Answer;
+use crate::HEAD;
+use crate::Refusal;
+use crate::replies;
+use crate::words;
+use derivation::flag_bytes;
+use derivation::ref_lists;
+use derivation::ref_lists::RefList;
+use derivation::ref_lists::Refs;
+use format::kinds;
+use paper::Current;
+use paper::Now;
+use paper::Serial;
+use store::Store;
+ghost use mathlib.Core.Path.{_≡_};
+ghost use mathlib.Core.Bool.{true, cond, not, _&&_, _||_};
+ghost use mathlib.Core.List.{List};
+ghost use Prim.Native.Nat.{ℕ};
+ghost use lib.Dec.{eqb, leb};
+ghost use Rattle.paper.specs.declared.Serial.{Serial};
+ghost use Rattle.paper.specs.Words.{anyB};
+ghost use Rattle.paper.specs.Records.{Slice, sliceOf};
+ghost use Rattle.paper.specs.Ranges.{listsRanges};
+ghost use Rattle.paper.specs.RefLists.{list0, list1};
+ghost use Rattle.paper.specs.Step.{listsAt, listsOf};
+ghost use Rattle.derivation.specs.Lists.{refsIn, HoldsList};
+ghost use Rattle.paper.specs.State as P;
+ghost use Rattle.paper.specs.Replies.{bytesOf};
+ghost use Rattle.paper.specs.Replies.Reply.{Listed};
+ghost use Rattle.session.specs.View.{memory, sessionIn};
+ghost use Rattle.session.specs.Said.{Says, Answers, Roomy, WellFormed};
+ghost use Rattle.session.specs.Slices.{ReadsAs, numberIn, listsNumber};
+
+// What a lists record says of one list, but for its entry bytes.
+pub(crate) struct Ask {
+    pub(crate) uses: bool,
+    pub(crate) active: u8,
+    pub(crate) modify: bool,
+}
+
+// What a lists record says before its entry bytes: its slice type, its flags, whether the current picture is itself a
+// candidate, and what it says of list 0 and of list 1.
+pub(crate) struct SliceHead {
+    pub(crate) slice: u8,
+    pub(crate) flags: u8,
+    pub(crate) own: bool,
+    pub(crate) ask0: Ask,
+    pub(crate) ask1: Ask,
+}
+
+// Whether a record is accepted, or by what it is refused.
+pub(crate) enum Verdict {
+    Fine,
+    No(Refusal),
+}
+
+// Reads what a lists record says before its entry bytes. A B or a P slice uses list 0, a B slice uses list 1.
+fn slice_head(msg: &[u8]) -> SliceHead
+    ensures { λ r. ⌜ ReadsAs r (sliceOf (now (msg .entry))) ⌝ }
+{
+    let slice = wire::byte(msg, 4);
+    let flags = wire::byte(msg, 5);
+    let ask0 = Ask {
+        uses: slice < 2,
+        active: wire::byte(msg, 6),
+        modify: flag_bytes::bit0(flags),
+    };
+    let ask1 = Ask {
+        uses: slice == 0,
+        active: wire::byte(msg, 7),
+        modify: flag_bytes::bit1(flags),
+    };
+    SliceHead {
+        slice,
+        flags,
+        own: flag_bytes::bit2(flags),
+        ask0,
+        ask1,
+    }
+}
+
+// Whether the count of a list is within its range: "Active counts 1 to 16 where the slice type uses the list, else 0
+// with its modify bit 0."
+fn active_ok(a: Ask) -> bool
+    ensures { λ r. ⌜ r ≡ cond (a .uses) (leb 1 (a .active) && leb (a .active) 16)
+        (eqb (a .active) 0 && not (a .modify)) ⌝ }
+{
+    if a.uses {
+        return (1 <= a.active) & (a.active as usize <= Store::CAPACITY);
+    }
+    (a.active == 0) & !a.modify
+}
+
+// Whether every field of a lists record is within its range. If one is not, lists is refused by 5.
+fn lists_ranges(h: SliceHead) -> bool
+    ensures { λ r. ⌜ ((f : Slice) → ReadsAs h f → r ≡ listsRanges f) ⌝ }
+{
+    let x = h.ask0;
+    let y = h.ask1;
+    (h.slice <= 2) & flag_bytes::spare3(h.flags) & active_ok(x) & active_ok(y)
+}
+
+// How many entry bytes stand for a list: one for each place of it, where its modify bit is on.
+fn entry_count(a: Ask) -> usize
+    ensures { λ r. ⌜ r ≡ cond (a .modify) (a .active) 0 ⌝ }
+{
+    if a.modify { a.active as usize } else { 0 }
+}
+
+// Whether an entry byte of list 0 or of list 1 is not below n, the number of candidates. If one is, lists is refused
+// by 12.
+fn bad_entries(msg: &[u8], h: SliceHead, n: usize) -> bool
+    requires { ⌜ WellFormed 3 (now msg) × ReadsAs h (sliceOf (now msg)) ⌝ }
+    ensures { λ r. ⌜ r ≡ (anyB (λ (e : ℕ). leb n e) (sliceOf (now (msg .entry)) .ask0 .entries)
+        || anyB (λ (e : ℕ). leb n e) (sliceOf (now (msg .entry)) .ask1 .entries)) ⌝ }
+{
+    let x = h.ask0;
+    let y = h.ask1;
+    let a = 8 + entry_count(x);
+    let b = a + entry_count(y);
+    ref_lists::bad_entry(&msg[8..a], n) | ref_lists::bad_entry(&msg[a..b], n)
+}
+
+// The first refusal of "5, 10, 11 for list 0 then 1, 12 likewise" that applies, if one does.
+fn judged(run: &[u32; Store::CAPACITY], refs: Refs, msg: &[u8], h: SliceHead) -> Verdict
+    requires { ⌜ WellFormed 3 (now msg) × ReadsAs h (sliceOf (now msg)) ⌝ }
+    ensures { λ r. ⌜ ((c : Serial) → numberIn r
+        ≡ listsNumber (refsIn (now (run .entry)) refs) c (sliceOf (now (msg .entry)))) ⌝ }
+{
+    if !lists_ranges(h) {
+        return Verdict::No(Refusal::OutOfRange);
+    }
+    let x = h.ask0;
+    let y = h.ask1;
+    let n = ref_lists::candidate_count(run, refs, h.own);
+    if x.uses & (n == 0) {
+        return Verdict::No(Refusal::NoCandidate);
+    }
+    if ref_lists::too_many(x.uses, x.active, n) | ref_lists::too_many(y.uses, y.active, n) {
+        return Verdict::No(Refusal::TooMany);
+    }
+    if bad_entries(msg, h, n) {
+        return Verdict::No(Refusal::BadEntry);
+    }
+    Verdict::Fine
+}
+
+// List 0 of an accepted record; empty where the slice does not use it.
+fn first_list(
+    run: &[u32; Store::CAPACITY],
+    refs: Refs,
+    c: Serial,
+    msg: &[u8],
+    h: SliceHead,
+) -> RefList
+    requires { ⌜ WellFormed 3 (now msg) × ReadsAs h (sliceOf (now msg))
+        × (listsNumber (refsIn (now run) refs) c (sliceOf (now msg)) ≡ 0) ⌝ }
+    ensures { λ r. ⌜ HoldsList r (list0 (refsIn (now (run .entry)) refs) c (sliceOf (now (msg .entry)))) ⌝ }
+{
+    let x = h.ask0;
+    if !x.uses {
+        return ref_lists::no_list();
+    }
+    let own = h.own;
+    let n = ref_lists::candidate_count(run, refs, own);
+    let last = ref_lists::ends_with_own(own, x.modify, x.active, n);
+    let e = 8 + entry_count(x);
+    ref_lists::build_ref_pic_list(
+        run,
+        refs,
+        c,
+        own,
+        false,
+        last,
+        x.active,
+        x.modify,
+        &msg[8..e],
+    )
+}
+
+// List 1 of an accepted record; empty where the slice does not use it.
+fn second_list(
+    run: &[u32; Store::CAPACITY],
+    refs: Refs,
+    c: Serial,
+    msg: &[u8],
+    h: SliceHead,
+) -> RefList
+    requires { ⌜ WellFormed 3 (now msg) × ReadsAs h (sliceOf (now msg))
+        × (listsNumber (refsIn (now run) refs) c (sliceOf (now msg)) ≡ 0) ⌝ }
+    ensures { λ r. ⌜ HoldsList r (list1 (refsIn (now (run .entry)) refs) c (sliceOf (now (msg .entry)))) ⌝ }
+{
+    let y = h.ask1;
+    if !y.uses {
+        return ref_lists::no_list();
+    }
+    let own = h.own;
+    let x = h.ask0;
+    let a = 8 + entry_count(x);
+    let b = a + entry_count(y);
+    ref_lists::build_ref_pic_list(
+        run,
+        refs,
+        c,
+        own,
+        true,
+        false,
+        y.active,
+        y.modify,
+        &msg[a..b],
+    )
+}
+
+// Makes both lists of an accepted record and writes the reply.
+fn listed(
+    run: &[u32; Store::CAPACITY],
+    refs: Refs,
+    c: Serial,
+    msg: &[u8],
+    h: SliceHead,
+    reply: &mut [u8],
+) -> Answer
+    requires { ⌜ WellFormed 3 (now msg) × ReadsAs h (sliceOf (now msg))
+        × (listsNumber (refsIn (now run) refs) c (sliceOf (now msg)) ≡ 0) × Roomy (now reply) ⌝ }
+    ensures { λ r. ⌜ Says (bytesOf (Listed
+        (list0 (refsIn (now (run .entry)) refs) c (sliceOf (now (msg .entry))))
+        (list1 (refsIn (now (run .entry)) refs) c (sliceOf (now (msg .entry))))))
+        (now (reply .entry)) r (now (reply .exit)) ⌝ }
+{
+    let x = first_list(run, refs, c, msg, h);
+    let y = second_list(run, refs, c, msg, h);
+    replies::put_lists(reply, x, y)
+}
+
+// Lists where c is the current picture. The record is read once and handed on.
+fn lists_at(
+    run: &[u32; Store::CAPACITY],
+    refs: Refs,
+    c: Current,
+    msg: &[u8],
+    reply: &mut [u8],
+) -> Answer
+    requires { ⌜ WellFormed 3 (now msg) × Roomy (now reply) ⌝ }
+    ensures { λ r. ⌜ ((s : P.Session) → s .refs ≡ refsIn (now (run .entry)) refs
+        → Answers (listsAt s (sliceOf (now (msg .entry))) c) (now (reply .entry)) r (now (reply .exit))) ⌝ }
+{
+    let serial = c.serial;
+    let h = slice_head(msg);
+    match judged(run, refs, msg, h) {
+        Verdict::No(why) => replies::refuse(reply, kinds::LISTED, why),
+        Verdict::Fine => listed(run, refs, serial, msg, h, reply),
+    }
+}
+
+// Lists (8.3.4): refused by 4 with no current picture. Nothing of the session changes.
+pub(crate) fn lists(
+    head: &[u32; HEAD],
+    run: &[u32; Store::CAPACITY],
+    msg: &[u8],
+    reply: &mut [u8],
+) -> Answer
+    requires { ⌜ WellFormed 3 (now msg) × Roomy (now reply) ⌝ }
+    ensures { λ r. ⌜ ((t : List ℕ) → Answers
+        (listsOf (sessionIn (memory (now (head .entry)) (now (run .entry)) t)) (sliceOf (now (msg .entry))))
+        (now (reply .entry)) r (now (reply .exit))) ⌝ }
+{
+    let refs = words::refs_in(head);
+    match words::now_in(head) {
+        Now::Idle => replies::refuse(reply, kinds::LISTED, Refusal::NoCurrent),
+        Now::Is(c) => lists_at(run, refs, c, msg, reply),
+    }
+}

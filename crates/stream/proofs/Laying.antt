@@ -1,0 +1,47 @@
+-- Text laid into a lent part of a buffer is laid into the buffer, and text behind text is laid as one.
+use Prim.Native.Nat.{ℕ, _+_, _≤_}
+use mathlib.Core.Path.{_≡_, refl, sym, ap, ap₂, _∙_}
+use mathlib.Core.List.{List, [], _++_, append-assoc}
+use lib.ListN.{length, take, drop, length-append, take-append-drop}
+use lib.Seq.{take-at, drop-at, drop-drop, drop-append-le}
+use Rattle.wire.specs.Bytes.{over}
+use Rattle.stream.specs.Laid.{laidAt, Puts}
+
+-- the part from `made` on, of which the k first bytes are lent
+pub laid-part : {part : List ℕ} (made k : ℕ) (text before : List ℕ) → length text ≤ length (take k (drop made before)) → part ≡ over text (take k (drop made before))
+    → take made before ++ (part ++ drop k (drop made before)) ≡ laidAt made text before
+unfolding over
+laid-part {part} made k text before h e =
+    let mid = take k (drop made before) in
+    let post = drop k (drop made before) in
+    let rest : drop (length text) mid ++ post ≡ drop (length text) (drop made before) = sym (drop-append-le (length text) mid post h) ∙ ap (drop (length text)) (take-append-drop k (drop made before)) in
+    ap (λ (l : List ℕ). take made before ++ l) (ap (λ (l : List ℕ). l ++ post) e ∙ append-assoc text (drop (length text) mid) post ∙ ap (λ (l : List ℕ). text ++ l) rest)
+
+-- and more behind what was put
+pub put-more : {made len : ℕ} {before middle after : List ℕ} (front text : List ℕ) → Puts made front before middle → len ≡ length text → after ≡ laidAt made text middle → Puts (made + len) (front ++ text) before after
+unfolding over
+put-more {made} {len} {before} front text p n e =
+    let l = drop (length front) before in
+    record {
+      long = ap₂ (λ (x y : ℕ). x + y) (p .long) n ∙ sym (length-append front text);
+      bytes =
+          e
+          ∙ ap (laidAt made text) (p .bytes)
+          ∙ ap₂ (λ (x y : List ℕ). x ++ (text ++ drop (length text) y)) (take-at front l made (sym (p .long))) (drop-at front l made (sym (p .long)))
+          ∙ ap (λ (x : List ℕ). front ++ (text ++ x)) (drop-drop (length text) (length front) before ∙ ap (λ (k : ℕ). drop k before) (sym (length-append front text)))
+          ∙ sym (append-assoc front text (drop (length (front ++ text)) before));
+    }
+
+-- what was put is found again
+pub put-front : {made : ℕ} {text before after : List ℕ} → Puts made text before after → take made after ≡ text
+unfolding over
+put-front {made} {text} {before} p = ap (take made) (p .bytes) ∙ take-at text (drop (length text) before) made (sym (p .long))
+
+pub put-none : (l : List ℕ) → Puts 0 [] l l
+unfolding over
+put-none l = record { long = refl; bytes = refl }
+
+-- where the text is empty, nothing was put
+pub none-put : {made : ℕ} {text before after : List ℕ} → Puts made text before after → text ≡ [] → (made ≡ 0) × (after ≡ before)
+unfolding over
+none-put {before = before} p e = (p .long ∙ ap length e, p .bytes ∙ ap (λ (l : List ℕ). over l before) e)

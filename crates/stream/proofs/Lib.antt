@@ -1,0 +1,4 @@
+pub mod Moving
+pub mod Keeping
+pub mod Running
+pub mod Laying

@@ -1,0 +1,46 @@
+// Bytes that wait between reads: read on behind them, and what was taken cut off in front.
+ghost use mathlib.Core.Path.{_≡_};
+ghost use Prim.Native.Nat.{min};
+ghost use Rattle.stream.specs.Turns.{Fed, shifted};
+
+// How many bytes wait now, and whether the read failed.
+pub struct Read {
+    pub held: usize,
+    pub failed: bool,
+}
+
+// One read behind the `held` bytes that wait. None is read at the end of the input, where it can't be read, or where
+// there is no room behind them, which counts as failed.
+pub fn read_on(fd: i32, held: usize, bytes: &mut [u8]) -> Read
+    ensures { λ r. ⌜ Fed held (now (bytes .entry)) r (now (bytes .exit)) ⌝ }
+{
+    if bytes.len() <= held {
+        return Read { held, failed: true };
+    }
+    let rest = &mut bytes[held..];
+    let got = libc::read(fd, rest);
+    let n = io::count(got, rest);
+    Read {
+        held: held + n,
+        failed: got < 0,
+    }
+}
+
+// The lesser of two places.
+fn lesser(a: usize, b: usize) -> usize
+    ensures { λ r. ⌜ r ≡ min a b ⌝ }
+{
+    if a < b { a } else { b }
+}
+
+// Moves the bytes from `from` to `end`, or to the last where `end` is past it, to the start.
+pub fn shift(bytes: &mut [u8], from: usize, end: usize)
+    ensures { λ _. ⌜ now (bytes .exit) ≡ shifted (now (bytes .entry)) from end ⌝ }
+{
+    let last = lesser(end, bytes.len());
+    let mut i = from;
+    while i < last {
+        bytes[i - from] = bytes[i];
+        i += 1;
+    }
+}

@@ -1,0 +1,257 @@
+-- Exchange after exchange: one more is heard as `watched` hears it.
+use Prim.Native.Nat.{ℕ, suc, _+_, _-_, _<_}
+use mathlib.Core.Path.{_≡_, refl, sym, ap, subst, subst₂, _∙_}
+use mathlib.Core.Bool.{true}
+use mathlib.Core.List.{List, [], _∷_, _++_}
+use native.Mathlib.Omega.{arith}
+use lib.ListN.{length, take, drop, length-append}
+use lib.Seq.{take-append-le, take-all}
+use lib.Dec.{eqb}
+use borrow.Author.Tests.{eqb-false, ne-eqb}
+use Rattle.paper.specs.Words.{allB, first}
+use Rattle.paper.specs.Kinds.{endKind, abandonKind}
+use Rattle.paper.specs.Replies.{Reply}
+use Rattle.paper.specs.Ledger.{Ledger, tell, hear, readReply}
+use Rattle.paper.specs.Watch.{Verdict, replyPart, partOf, watched}
+use Rattle.paper.proofs.Bools.{split}
+use Rattle.watch.specs.declared.Tally.{Tally}
+use Rattle.watch.specs.declared.Book.{Book}
+use Rattle.watch.specs.declared.Heard.{Heard}
+use Rattle.watch.specs.Book.{Holds, bookIn, HoldsBook, tallied}
+use Rattle.watch.specs.Hears.{Hears}
+use Rattle.format.specs.Cut.{sizeOf, isWhole, joined}
+use Rattle.watch.specs.Pairs.{tallyAll, IsLedger, Watches}
+use Rattle.watch.proofs.Determined.{whole-view}
+use Rattle.format.proofs.Cutting.{taken-more, whole-more}
+
+-- ---- nothing that is judged looks at `ok`
+
+abbrev pub inOrder : Ledger → Ledger
+inOrder L = record { held = L .held; current = L .current; begun = L .begun; ok = true }
+
+pub part-order : (L : Ledger) (r : List ℕ) (x : Reply) → replyPart (inOrder L) r x ≡ replyPart L r x
+unfolding replyPart
+part-order L r (Reply.Refused kind n) = refl
+part-order L r (Reply.Done kind t) = refl
+part-order L r (Reply.Started b t) = refl
+part-order L r (Reply.Listed l0 l1) = refl
+
+pub held-order : (L : Ledger) (r : List ℕ) (x : Reply) → tell (inOrder L) r x .held ≡ tell L r x .held
+unfolding tell
+held-order L r (Reply.Refused kind n) = refl
+held-order L r (Reply.Done kind t) = split (eqb kind endKind) (λ e. rw e) (λ e. split (eqb kind abandonKind) (λ f. rw (e, f)) (λ f. rw (e, f)))
+held-order L r (Reply.Started b t) = refl
+held-order L r (Reply.Listed l0 l1) = refl
+
+pub current-order : (L : Ledger) (r : List ℕ) (x : Reply) → tell (inOrder L) r x .current ≡ tell L r x .current
+unfolding tell
+current-order L r (Reply.Refused kind n) = refl
+current-order L r (Reply.Done kind t) = split (eqb kind endKind) (λ e. rw e) (λ e. split (eqb kind abandonKind) (λ f. rw (e, f)) (λ f. rw (e, f)))
+current-order L r (Reply.Started b t) = refl
+current-order L r (Reply.Listed l0 l1) = refl
+
+pub begun-order : (L : Ledger) (r : List ℕ) (x : Reply) → tell (inOrder L) r x .begun ≡ tell L r x .begun
+unfolding tell
+begun-order L r (Reply.Refused kind n) = refl
+begun-order L r (Reply.Done kind t) = split (eqb kind endKind) (λ e. rw e) (λ e. split (eqb kind abandonKind) (λ f. rw (e, f)) (λ f. rw (e, f)))
+begun-order L r (Reply.Started b t) = refl
+begun-order L r (Reply.Listed l0 l1) = refl
+
+-- a book in normal form is its ledger
+pub is-ledger : {b : Book} {L : Ledger} {t : Tally} → HoldsBook b L t → IsLedger b L
+is-ledger h = record { held = whole-view h; current = h .current; begun = h .begun }
+
+module _ {b : Book} {L : Ledger} (h : IsLedger b L) where
+  pub same-book : bookIn b ≡ inOrder L
+  same-book = λ i. record { held = h .held i; current = h .current i; begun = h .begun i; ok = true }
+
+  pub same-part : (r a : List ℕ) → partOf (bookIn b) r a ≡ partOf L r a
+  unfolding partOf first
+  same-part r a = let e : replyPart (bookIn b) r (readReply a) ≡ replyPart L r (readReply a) = ap (λ (K : Ledger). replyPart K r (readReply a)) same-book ∙ part-order L r (readReply a) in rw e
+
+  pub next-normal : {k : Book} {t : Tally} (r : List ℕ) (x : Reply) → HoldsBook k (hear (bookIn b) r x) t → HoldsBook k (hear L r x) t
+  next-normal {k} r x g =
+      record {
+        held = subst (Holds (k .held)) (ap (λ (K : Ledger). tell K r x .held) same-book ∙ held-order L r x) (g .held);
+        few = g .few;
+        current = g .current ∙ ap (λ (K : Ledger). tell K r x .current) same-book ∙ current-order L r x;
+        begun = g .begun ∙ ap (λ (K : Ledger). tell K r x .begun) same-book ∙ begun-order L r x;
+        tally = g .tally;
+      }
+
+-- ---- one exchange more
+
+abbrev breaks : ℕ → ℕ → Ledger → Verdict
+breaks n p L = record { at = n; part = p; ledger = L }
+
+pub watched-more : (n : ℕ) (L : Ledger) (rs answers qs bs : List (List ℕ)) → watched n L rs answers .part ≡ 0
+    → watched n L (rs ++ qs) (answers ++ bs) ≡ watched (watched n L rs answers .at) (watched n L rs answers .ledger) qs bs
+unfolding watched
+watched-more n L [] [] qs bs z = refl
+watched-more n L (r ∷ rs) [] qs bs z = absurd (omega arith)
+watched-more n L [] (a ∷ answers) qs bs z = absurd (omega arith)
+watched-more n L (r ∷ rs) (a ∷ answers) qs bs z =
+    split (eqb (partOf L r a) 0)
+    (λ e.
+    let w : watched (n + 1) (hear L r (readReply a)) rs answers .part ≡ 0 = rw e at z in
+    rw e (watched-more (n + 1) (hear L r (readReply a)) rs answers qs bs w))
+    (λ e. absurd (eqb-false (partOf L r a) 0 e (rw e at z)))
+
+one-right : (n : ℕ) (L : Ledger) (r a : List ℕ) → partOf L r a ≡ 0 → watched n L (r ∷ []) (a ∷ []) ≡ breaks (n + 1) 0 (hear L r (readReply a))
+unfolding watched
+one-right n L r a z = rw z
+
+one-wrong : (n : ℕ) (L : Ledger) (r a : List ℕ) → (partOf L r a ≡ 0 → ⊥) → watched n L (r ∷ []) (a ∷ []) ≡ breaks n (partOf L r a) L
+unfolding watched
+one-wrong n L r a z = rw (ne-eqb (partOf L r a) 0 z)
+
+pub tally-append : (t : Tally) (answers bs : List (List ℕ)) → tallyAll t (answers ++ bs) ≡ tallyAll (tallyAll t answers) bs
+unfolding tallyAll
+tally-append t [] bs = refl
+tally-append t (a ∷ answers) bs = tally-append (tallied t (readReply a)) answers bs
+
+tally-more : (t : Tally) (answers : List (List ℕ)) (a : List ℕ) → tallyAll t (answers ++ (a ∷ [])) ≡ tallied (tallyAll t answers) (readReply a)
+unfolding tallyAll
+tally-more t answers a = tally-append t answers (a ∷ [])
+
+even-more : (rs qs : List (List ℕ)) (r q : List ℕ) → length rs ≡ length qs → length (rs ++ (r ∷ [])) ≡ length (qs ++ (q ∷ []))
+even-more rs qs r q e = let a = length-append rs (r ∷ []) in let b = length-append qs (q ∷ []) in omega arith
+
+-- where nothing breaks there are as many records as replies, and the place is behind them
+pub watched-even : (n : ℕ) (L : Ledger) (rs answers : List (List ℕ)) → watched n L rs answers .part ≡ 0 → (length rs ≡ length answers) × (watched n L rs answers .at ≡ n + length answers)
+unfolding watched
+watched-even n L [] [] z = (refl, omega arith)
+watched-even n L (r ∷ rs) [] z = absurd (omega arith)
+watched-even n L [] (a ∷ answers) z = absurd (omega arith)
+watched-even n L (r ∷ rs) (a ∷ answers) z =
+    split (eqb (partOf L r a) 0)
+    (λ e.
+    let k = watched-even (n + 1) (hear L r (readReply a)) rs answers (rw e at z) in
+    rw e (ap suc (k .0), omega (arith, k .1)))
+    (λ e. absurd (eqb-false (partOf L r a) 0 e (rw e at z)))
+
+pub nothing-heard : (b : Book) (records replies : List ℕ) → Watches b records replies (record { book = b; taken = 0; answered = 0; pairs = 0; part = 0 })
+unfolding joined watched allB tallyAll
+nothing-heard b records replies =
+    record {
+      said = [];
+      answers = [];
+      whole-said = refl;
+      whole-answers = refl;
+      even = refl;
+      cut-said = refl;
+      cut-answers = refl;
+      part = refl;
+      pairs = refl;
+      ledger = record { held = refl; current = refl; begun = refl };
+      tally = refl;
+      same = λ _. refl;
+      normal = λ h. absurd (omega arith);
+      last = λ z. absurd (z refl);
+    }
+
+module _ {b k : Book} {records replies : List ℕ} (taken answered pairs n m : ℕ) (h : 0 < n) (e : n ≡ sizeOf (drop taken records)) (i : 0 < m) (f : m ≡ sizeOf (drop answered replies))
+    (g : Watches b records replies (record { book = k; taken = taken; answered = answered; pairs = pairs; part = 0 })) (x : Heard)
+    (d : Hears k (take (taken + n - taken) (drop taken records)) (take (answered + m - answered) (drop answered replies)) x) where
+  rec : List ℕ
+  rec = take n (drop taken records)
+
+  ans : List ℕ
+  ans = take m (drop answered replies)
+
+  now-hears : Hears k rec ans x
+  unfolding rec ans
+  now-hears =
+      let p : taken + n - taken ≡ n = omega arith in
+      let q : answered + m - answered ≡ m = omega arith in
+      rw (p, q) at d
+
+  before : Verdict
+  before = watched 0 (bookIn b) (g .said) (g .answers)
+
+  goes-on : watched 0 (bookIn b) (g .said ++ (rec ∷ [])) (g .answers ++ (ans ∷ [])) ≡ watched (before .at) (before .ledger) (rec ∷ []) (ans ∷ [])
+  unfolding before
+  goes-on = watched-more 0 (bookIn b) (g .said) (g .answers) (rec ∷ []) (ans ∷ []) (sym (g .part))
+
+  its-part : x .part ≡ partOf (before .ledger) rec ans
+  unfolding before
+  its-part = now-hears .part ∙ same-part (g .ledger) rec ans
+
+  said-cut : take (taken + n) records ≡ joined (g .said ++ (rec ∷ []))
+  unfolding rec
+  said-cut = taken-more (g .said) records taken n (g .cut-said)
+
+  answers-cut : take (answered + m) replies ≡ joined (g .answers ++ (ans ∷ []))
+  unfolding ans
+  answers-cut = taken-more (g .answers) replies answered m (g .cut-answers)
+
+  whole-rec : allB isWhole (g .said ++ (rec ∷ [])) ≡ true
+  unfolding rec
+  whole-rec = whole-more (g .said) records taken n h e (g .whole-said)
+
+  whole-ans : allB isWhole (g .answers ++ (ans ∷ [])) ≡ true
+  unfolding ans
+  whole-ans = whole-more (g .answers) replies answered m i f (g .whole-answers)
+
+  evenly : length (g .said ++ (rec ∷ [])) ≡ length (g .answers ++ (ans ∷ []))
+  evenly = even-more (g .said) (g .answers) rec ans (g .even)
+
+  all : pairs ≡ length (g .answers)
+  all = let k = watched-even 0 (bookIn b) (g .said) (g .answers) (sym (g .part)) in omega (arith, k .1, g .pairs)
+
+  counts : k .tally ≡ tallyAll (b .tally) (g .answers)
+  counts = g .tally ∙ ap (tallyAll (b .tally)) (take-all pairs (g .answers) (let e = all in omega arith))
+
+  one-longer : length (g .answers ++ (ans ∷ [])) ≡ pairs + 1
+  one-longer = let e = all in let n = length-append (g .answers) (ans ∷ []) in omega arith
+
+  pub heard-wrong : (x .part ≡ 0 → ⊥) → Watches b records replies (record { book = k; taken = taken + n; answered = answered + m; pairs = pairs; part = x .part })
+  unfolding before
+  heard-wrong z =
+      let w : partOf (before .ledger) rec ans ≡ 0 → ⊥ = λ y. z (its-part ∙ y) in
+      let v = goes-on ∙ one-wrong (before .at) (before .ledger) rec ans w in
+      let l = sym (ap (λ (y : Verdict). y .ledger) v) in
+      let t = ap (tallyAll (b .tally)) (sym (take-append-le pairs (g .answers) (ans ∷ []) (let y = all in omega arith))) in
+      record {
+        said = g .said ++ (rec ∷ []);
+        answers = g .answers ++ (ans ∷ []);
+        whole-said = whole-rec;
+        whole-answers = whole-ans;
+        even = evenly;
+        cut-said = said-cut;
+        cut-answers = answers-cut;
+        part = its-part ∙ sym (ap (λ (y : Verdict). y .part) v);
+        pairs = g .pairs ∙ sym (ap (λ (y : Verdict). y .at) v);
+        ledger = subst (IsLedger k) l (g .ledger);
+        tally = g .tally ∙ t;
+        same = g .same;
+        normal = λ y. subst₂ (HoldsBook k) l t (g .normal y);
+        last = λ _. evenly ∙ one-longer;
+      }
+
+  pub heard-right : x .part ≡ 0 → Watches b records replies (record { book = x .book; taken = taken + n; answered = answered + m; pairs = pairs + 1; part = 0 })
+  unfolding before
+  heard-right z =
+      let w : partOf (before .ledger) rec ans ≡ 0 = sym its-part ∙ z in
+      let v = goes-on ∙ one-right (before .at) (before .ledger) rec ans w in
+      let t : tallied (k .tally) (readReply ans) ≡ tallyAll (b .tally) (take (pairs + 1) (g .answers ++ (ans ∷ []))) =
+      ap (λ (u : Tally). tallied u (readReply ans)) counts
+      ∙ sym (tally-more (b .tally) (g .answers) ans)
+      ∙ ap (tallyAll (b .tally)) (sym (take-all (pairs + 1) (g .answers ++ (ans ∷ [])) (let u = one-longer in omega arith))) in
+      let y = subst₂ (HoldsBook (x .book)) (sym (ap (λ (u : Verdict). u .ledger) v)) t (next-normal (g .ledger) rec (readReply ans) (now-hears .kept (sym (now-hears .part) ∙ z))) in
+      record {
+        said = g .said ++ (rec ∷ []);
+        answers = g .answers ++ (ans ∷ []);
+        whole-said = whole-rec;
+        whole-answers = whole-ans;
+        even = evenly;
+        cut-said = said-cut;
+        cut-answers = answers-cut;
+        part = sym (ap (λ (u : Verdict). u .part) v);
+        pairs = ap (λ (u : ℕ). u + 1) (g .pairs) ∙ sym (ap (λ (u : Verdict). u .at) v);
+        ledger = is-ledger y;
+        tally = y .tally;
+        same = λ u. absurd (omega arith);
+        normal = λ _. y;
+        last = λ u. absurd (u refl);
+      }

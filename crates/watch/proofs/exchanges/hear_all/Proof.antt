@@ -1,0 +1,185 @@
+-- Each turn hears one exchange more, and nothing before it breaks a part.
+use native.Mathlib.Omega.{arith}
+use mathlib.Core.Path.{_≡_}
+use borrow.Author.Needs.{needs}
+use Prim.Native.Nat.{_-_, _≤_}
+use lib.ListN.{length}
+use Rattle.watch.specs.Pairs.{Watches}
+use Rattle.format.proofs.Fitting.{size-at, size-end}
+use Rattle.watch.proofs.Sizes.{size-none, neither}
+use Rattle.watch.proofs.ExchangeLaws.{nothing-heard, heard-wrong, heard-right}
+use Rattle.watch.proofs.exchanges.hear_all.Statement.{statement}
+use Rattle.watch.proofs.exchanges.hear_all.Tie as tie
+
+abbrev Inv-loop : tie.InvT-loop
+Inv-loop records replies book₀ taken₀ answered₀ pairs₀ book taken answered pairs = (taken ≤ length records) × ((answered ≤ length replies) × ((pairs ≤ taken) × Watches book₀ records replies (record { book = book; taken = taken; answered = answered; pairs = pairs; part = 0 })))
+
+abbrev μ-loop : tie.MeasureT-loop
+μ-loop records replies book₀ taken₀ answered₀ pairs₀ book taken answered pairs = length records - taken
+
+loop-holds : tie.Need-loop-holds Inv-loop μ-loop
+loop-holds c = (omega arith, (omega arith, (omega arith, nothing-heard _ _ _)))
+
+sub-size : tie.Need-sub-size Inv-loop μ-loop
+sub-size c = search needs
+
+part-size-start : tie.Need-part-size-start Inv-loop μ-loop
+part-size-start c = search needs
+
+part-size-end : tie.Need-part-size-end Inv-loop μ-loop
+part-size-end c = search needs
+
+size-requires : tie.Need-size-requires Inv-loop μ-loop
+size-requires c κs = search needs
+
+sub-size-2 : tie.Need-sub-size-2 Inv-loop μ-loop
+sub-size-2 c = search needs
+
+part-size-start-2 : tie.Need-part-size-start-2 Inv-loop μ-loop
+part-size-start-2 c = search needs
+
+part-size-end-2 : tie.Need-part-size-end-2 Inv-loop μ-loop
+part-size-end-2 c = search needs
+
+size-requires-2 : tie.Need-size-requires-2 Inv-loop μ-loop
+size-requires-2 c κs = search needs
+
+so-far-requires : tie.Need-so-far-requires Inv-loop μ-loop
+so-far-requires c κs = search needs
+
+returns : tie.Need-returns Inv-loop μ-loop
+returns r =
+    let c = r .before in
+    let l = c .before .before .before .before .before .before .loop in
+    let s = c .before .before .before .before .before .before .before .before .before in
+    rw (r .so-far .ensures)
+    (record {
+      watches = l .inv .1 .1 .1;
+      taken = l .inv .0;
+      answered = l .inv .1 .0;
+      rest = λ _. rw (size-at (s .args .records .now) (l .taken) (c .before .before .before .size .ensures), size-at (s .args .replies .now) (l .answered) (c .before .size2 .ensures)) at (c .if1 .taken);
+    })
+
+add-e : tie.Need-add-e Inv-loop μ-loop
+add-e c =
+    let l = c .before .before .before .before .before .before .loop in
+    let k = size-end (c .before .before .before .before .before .before .before .before .before .args .records .now) (l .taken) (c .before .before .before .size .ensures) (l .inv .0) in
+    omega (arith, k)
+
+add-f : tie.Need-add-f Inv-loop μ-loop
+add-f c =
+    let l = c .before .before .before .before .before .before .loop in
+    let k = size-end (c .before .before .before .before .before .before .before .before .before .args .replies .now) (l .answered) (c .before .size2 .ensures) (l .inv .1 .0) in
+    omega (arith, k)
+
+sub-hear : tie.Need-sub-hear Inv-loop μ-loop
+sub-hear c = search needs
+
+part-hear-start : tie.Need-part-hear-start Inv-loop μ-loop
+part-hear-start c = search needs
+
+part-hear-end : tie.Need-part-hear-end Inv-loop μ-loop
+part-hear-end c =
+    let l = c .before .before .before .before .before .before .loop in
+    size-end (c .before .before .before .before .before .before .before .before .before .args .records .now) (l .taken) (c .before .before .before .size .ensures) (l .inv .0)
+
+sub-hear-2 : tie.Need-sub-hear-2 Inv-loop μ-loop
+sub-hear-2 c = search needs
+
+part-hear-start-2 : tie.Need-part-hear-start-2 Inv-loop μ-loop
+part-hear-start-2 c = search needs
+
+part-hear-end-2 : tie.Need-part-hear-end-2 Inv-loop μ-loop
+part-hear-end-2 c =
+    let l = c .before .before .before .before .before .before .before .loop in
+    size-end (c .before .before .before .before .before .before .before .before .before .before .args .replies .now) (l .answered) (c .before .before .size2 .ensures) (l .inv .1 .0)
+
+hear-requires : tie.Need-hear-requires Inv-loop μ-loop
+hear-requires c κs = search needs
+
+so-far-requires-2 : tie.Need-so-far-requires-2 Inv-loop μ-loop
+so-far-requires-2 c κs = search needs
+
+returns-2 : tie.Need-returns-2 Inv-loop μ-loop
+returns-2 r =
+    let c = r .before in
+    let l = c .before .before .before .before .before .before .before .before .before .before .loop in
+    let s = c .before .before .before .before .before .before .before .before .before .before .before .before .before in
+    let k = neither (c .before .before .before .before .before .before .before .size .result) (c .before .before .before .before .before .size2 .result) (c .before .before .before .before .if1 .left) in
+    let z : c .before .hear .result .part ≡ 0 → ⊥ = omega (arith, c .if2 .taken) in
+    rw (r .so-far2 .ensures)
+    (record {
+      watches = heard-wrong (l .taken) (l .answered) (l .pairs) (c .before .before .before .before .before .before .before .size .result) (c .before .before .before .before .before .size2 .result) (k .0) (size-at (s .args .records .now) (l .taken) (c .before .before .before .before .before .before .before .size .ensures)) (k .1) (size-at (s .args .replies .now) (l .answered) (c .before .before .before .before .before .size2 .ensures)) (l .inv .1 .1 .1) (c .before .hear .result) (c .before .hear .ensures) z;
+      taken = size-end (s .args .records .now) (l .taken) (c .before .before .before .before .before .before .before .size .ensures) (l .inv .0);
+      answered = size-end (s .args .replies .now) (l .answered) (c .before .before .before .before .before .size2 .ensures) (l .inv .1 .0);
+      rest = λ y. absurd (z y);
+    })
+
+add-pairs : tie.Need-add-pairs Inv-loop μ-loop
+add-pairs c =
+    let l = c .before .before .before .before .before .before .before .before .before .before .before .loop in
+    omega (arith, l .inv .0, l .inv .1 .1 .0, c .before .before .before .before .before .before .before .before .before .before .before .before .before .before .good)
+
+loop-less : tie.Need-loop-less Inv-loop μ-loop
+loop-less c =
+    let l = c .before .before .before .before .before .before .before .before .before .before .before .loop in
+    let s = c .before .before .before .before .before .before .before .before .before .before .before .before .before .before in
+    let k = neither (c .before .before .before .before .before .before .before .before .size .result) (c .before .before .before .before .before .before .size2 .result) (c .before .before .before .before .before .if1 .left) in
+    let e = size-end (s .args .records .now) (l .taken) (c .before .before .before .before .before .before .before .before .size .ensures) (l .inv .0) in
+    omega (arith, k .0, e)
+
+loop-again : tie.Need-loop-again Inv-loop μ-loop
+loop-again c =
+    let l = c .before .before .before .before .before .before .before .before .before .before .before .loop in
+    let s = c .before .before .before .before .before .before .before .before .before .before .before .before .before .before in
+    let k = neither (c .before .before .before .before .before .before .before .before .size .result) (c .before .before .before .before .before .before .size2 .result) (c .before .before .before .before .before .if1 .left) in
+    let z : c .before .before .hear .result .part ≡ 0 = omega (arith, c .before .if2 .left) in
+    let e = size-end (s .args .records .now) (l .taken) (c .before .before .before .before .before .before .before .before .size .ensures) (l .inv .0) in
+    let f = size-end (s .args .replies .now) (l .answered) (c .before .before .before .before .before .before .size2 .ensures) (l .inv .1 .0) in
+    (e, (f, (omega (arith, l .inv .1 .1 .0, k .0), heard-right (l .taken) (l .answered) (l .pairs) (c .before .before .before .before .before .before .before .before .size .result) (c .before .before .before .before .before .before .size2 .result) (k .0) (size-at (s .args .records .now) (l .taken) (c .before .before .before .before .before .before .before .before .size .ensures)) (k .1) (size-at (s .args .replies .now) (l .answered) (c .before .before .before .before .before .before .size2 .ensures)) (l .inv .1 .1 .1) (c .before .before .hear .result) (c .before .before .hear .ensures) z)))
+
+so-far-requires-3 : tie.Need-so-far-requires-3 Inv-loop μ-loop
+so-far-requires-3 c κs = search needs
+
+returns-3 : tie.Need-returns-3 Inv-loop μ-loop
+returns-3 r =
+    let c = r .before in
+    let l = c .before .loop in
+    let s = c .before .before .before .before in
+    let n : length (s .args .records .now) ≤ l .taken = omega arith in
+    rw (r .so-far3 .ensures)
+    (record { watches = l .inv .1 .1 .1; taken = l .inv .0; answered = l .inv .1 .0; rest = λ _. rw (size-none (s .args .records .now) (l .taken) n) })
+
+pub hear-all-spec : {M : Type 1} → statement M
+hear-all-spec =
+    tie.close
+    (tie.spec
+    Inv-loop
+    μ-loop
+    loop-holds
+    sub-size
+    part-size-start
+    part-size-end
+    size-requires
+    sub-size-2
+    part-size-start-2
+    part-size-end-2
+    size-requires-2
+    so-far-requires
+    returns
+    add-e
+    add-f
+    sub-hear
+    part-hear-start
+    part-hear-end
+    sub-hear-2
+    part-hear-start-2
+    part-hear-end-2
+    hear-requires
+    so-far-requires-2
+    returns-2
+    add-pairs
+    loop-less
+    loop-again
+    so-far-requires-3
+    returns-3)

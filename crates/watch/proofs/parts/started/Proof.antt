@@ -1,0 +1,105 @@
+-- Each way out, in the order of the parts.
+use denote.Ref.{now}
+use native.Mathlib.Omega.{arith}
+use mathlib.Core.Path.{_≡_, _∙_, sym, refl}
+use Rattle.derivation.proofs.Pad.{is-good}
+use Rattle.watch.proofs.PartLaws.{flip, flop}
+use Rattle.watch.proofs.Ways.{begins-3, begins-4, begins-5, begins-tail, begins-left, begins-0}
+use borrow.Author.Needs.{needs}
+use Rattle.watch.proofs.parts.started.Statement.{statement}
+use Rattle.watch.proofs.parts.started.Tie as tie
+
+is-idle-requires : tie.Need-is-idle-requires
+is-idle-requires c κs = search needs
+
+returns : tie.Need-returns
+returns c = let a = c .before .before .before .before .before .args in begins-3 (a .b) (now (a .msg)) (now (a .reply)) (sym (c .before .is-idle .ensures) ∙ flip _ (c .if1 .taken))
+
+line-begun-requires : tie.Need-line-begun-requires
+line-begun-requires c κs = search needs
+
+cast-if2 : tie.Need-cast-if2
+cast-if2 c = search needs
+
+returns-2 : tie.Need-returns-2
+returns-2 c =
+    let a = c .before .before .before .before .before .before .before .before .before .before .args in
+    let e = c .before .before .before .before .line-begun .result in
+    let n : e .serial .0 ≡ a .b .begun → ⊥ = omega (arith, c .if2 .taken) in
+    begins-4 (a .b) (now (a .msg)) (now (a .reply)) (sym (c .before .before .before .before .before .before .is-idle .ensures) ∙ flop _ (c .before .before .before .before .before .if1 .left)) e (c .before .before .before .before .line-begun .ensures) n
+
+has-any-requires : tie.Need-has-any-requires
+has-any-requires c κs = search needs
+
+returns-3 : tie.Need-returns-3
+returns-3 c =
+    let a = c .before .before .before .before .before .before .before .before .before .before .before .before .before .args in
+    let e = c .before .before .before .before .before .before .before .line-begun .result in
+    let s : e .serial .0 ≡ a .b .begun = omega (arith, c .before .before .before .if2 .left) in
+    begins-5 (a .b) (now (a .msg)) (now (a .reply)) (sym (c .before .before .before .before .before .before .before .before .before .is-idle .ensures) ∙ flop _ (c .before .before .before .before .before .before .before .before .if1 .left)) e (c .before .before .before .before .before .before .before .line-begun .ensures) s (sym (c .before .has-any .ensures) ∙ c .if3 .taken)
+
+members-requires : tie.Need-members-requires
+members-requires c κs = search needs
+
+mul-tail : tie.Need-mul-tail
+mul-tail c = search needs
+
+add-tail : tie.Need-add-tail
+add-tail c = search needs
+
+tail-requires : tie.Need-tail-requires
+tail-requires c κs = search needs
+
+returns-4 : tie.Need-returns-4
+returns-4 c =
+    let a = c .before .before .before .before .before .before .before .before .before .before .before .before .before .before .before .before .before .args in
+    let e = c .before .before .before .before .before .before .before .before .before .before .before .line-begun .result in
+    let s : e .serial .0 ≡ a .b .begun = omega (arith, c .before .before .before .before .before .before .before .if2 .left) in
+    let z : c .before .before .tail .result .part ≡ 0 → ⊥ = omega (arith, c .if4 .taken) in
+    begins-tail (a .b) (now (a .msg)) (now (a .reply)) (sym (c .before .before .before .before .before .before .before .before .before .before .before .before .before .is-idle .ensures) ∙ flop _ (c .before .before .before .before .before .before .before .before .before .before .before .before .if1 .left)) e (c .before .before .before .before .before .before .before .before .before .before .before .line-begun .ensures) s (sym (c .before .before .before .before .before .has-any .ensures) ∙ c .before .before .before .before .if3 .left) (c .before .before .before .members .result) (c .before .before .before .members .ensures .0) (c .before .before .tail .result) (c .before .before .tail .ensures) z
+
+left-part-requires : tie.Need-left-part-requires
+left-part-requires c κs =
+    let t = c .before .before .before .tail in
+    let z : t .result .part ≡ 0 = omega (arith, c .before .if4 .left) in
+    (is-good (t .ensures .lines (sym (t .ensures .part) ∙ z)), c .before .before .before .before .members .ensures .1)
+
+returns-5 : tie.Need-returns-5
+returns-5 c =
+    let a = c .before .before .before .before .before .before .before .before .before .before .before .before .before .before .before .before .before .before .before .before .args in
+    let e = c .before .before .before .before .before .before .before .before .before .before .before .before .before .before .line-begun .result in
+    let s : e .serial .0 ≡ a .b .begun = omega (arith, c .before .before .before .before .before .before .before .before .before .before .if2 .left) in
+    let z : c .before .before .before .before .before .tail .result .part ≡ 0 = omega (arith, c .before .before .before .if4 .left) in
+    begins-left (a .b) (now (a .msg)) (now (a .reply)) (sym (c .before .before .before .before .before .before .before .before .before .before .before .before .before .before .before .before .is-idle .ensures) ∙ flop _ (c .before .before .before .before .before .before .before .before .before .before .before .before .before .before .before .if1 .left)) e (c .before .before .before .before .before .before .before .before .before .before .before .before .before .before .line-begun .ensures) s (sym (c .before .before .before .before .before .before .before .before .has-any .ensures) ∙ c .before .before .before .before .before .before .before .if3 .left) (c .before .before .before .before .before .before .members .result) (c .before .before .before .before .before .before .members .ensures .0) (c .before .before .before .before .before .tail .result) (c .before .before .before .before .before .tail .ensures) z (c .before .left-part .result) (c .before .left-part .ensures) (let k : c .before .left-part .result ≡ 0 → ⊥ = omega (arith, c .if5 .taken) in k)
+
+add-t17 : tie.Need-add-t17
+add-t17 c = search needs
+
+returns-6 : tie.Need-returns-6
+returns-6 c =
+    let a = c .before .before .before .before .before .before .before .before .before .before .before .before .before .before .before .before .before .before .before .before .before .before .args in
+    let e = c .before .before .before .before .before .before .before .before .before .before .before .before .before .before .before .before .line-begun .result in
+    let s : e .serial .0 ≡ a .b .begun = omega (arith, c .before .before .before .before .before .before .before .before .before .before .before .before .if2 .left) in
+    let z : c .before .before .before .before .before .before .before .tail .result .part ≡ 0 = omega (arith, c .before .before .before .before .before .if4 .left) in
+    begins-0 (a .b) (now (a .msg)) (now (a .reply)) (sym (c .before .before .before .before .before .before .before .before .before .before .before .before .before .before .before .before .before .before .is-idle .ensures) ∙ flop _ (c .before .before .before .before .before .before .before .before .before .before .before .before .before .before .before .before .before .if1 .left)) e (c .before .before .before .before .before .before .before .before .before .before .before .before .before .before .before .before .line-begun .ensures) s (sym (c .before .before .before .before .before .before .before .before .before .before .has-any .ensures) ∙ c .before .before .before .before .before .before .before .before .before .if3 .left) (c .before .before .before .before .before .before .before .before .members .result) (c .before .before .before .before .before .before .before .before .members .ensures .0) (c .before .before .before .before .before .before .before .tail .result) (c .before .before .before .before .before .before .before .tail .ensures) z (c .before .before .before .before .before .before .before .before .before .before .before .before .before .before .before .before .before .before .before .before .before .before .pre) (let k : c .before .before .before .left-part .result ≡ 0 = omega (arith, c .before .before .if5 .left) in sym (c .before .before .before .left-part .ensures) ∙ k)
+
+pub started-spec : {M : Type 1} → statement M
+started-spec =
+    tie.close
+    (tie.spec
+    is-idle-requires
+    returns
+    line-begun-requires
+    cast-if2
+    returns-2
+    has-any-requires
+    returns-3
+    members-requires
+    mul-tail
+    add-tail
+    tail-requires
+    returns-4
+    left-part-requires
+    returns-5
+    add-t17
+    returns-6)

@@ -1,0 +1,80 @@
+"""Recordings as text: records from a fresh session, each with the reply that document 01 asks for.
+
+A recording is a line `recording NAME: what it shows`, then for each record a line `> RECORD` and a line `< REPLY`
+(records.py has their form). A line that starts with '#' is a comment.
+"""
+import pathlib
+import re
+
+from . import model, records
+
+ROOT = pathlib.Path(__file__).resolve().parents[2]
+FOLDER = ROOT / "recordings"
+EXAMPLES, BROKEN, VECTORS, FROM_RUST = (FOLDER / name for name in ("examples", "broken", "vectors", "from-rust"))
+
+
+class Recording:
+    def __init__(self, name, shows, where):
+        self.name, self.shows, self.where = name, shows, where
+        self.said, self.answered = [], []
+
+
+def take_line(found, line, where):
+    """One line of a file into the recordings found so far."""
+    if line.startswith("recording "):
+        name, colon, shows = line[len("recording "):].partition(":")
+        if not re.fullmatch(r"[a-z0-9-]+", name) or not shows.strip() or name in [r.name for r in found]:
+            raise records.Bad("a recording needs a new name and what it shows")
+        found.append(Recording(name, shows.strip(), where))
+    elif not found or line[:2].strip() not in (">", "<"):
+        raise records.Bad("no recording, record or reply")
+    elif (line[0] == ">") != (len(found[-1].said) == len(found[-1].answered)):
+        raise records.Bad("records and replies do not take turns")
+    elif line[0] == ">":
+        found[-1].said.append(records.record_bytes(records.record_of_text(line[1:])))
+    else:
+        found[-1].answered.append(records.reply_bytes(records.reply_of_text(line[1:])))
+
+
+def read(folder):
+    """The recordings of all text files of a folder, in the order of their names."""
+    found = []
+    for path in sorted(folder.glob("*.txt")):
+        for place, line in enumerate(path.read_text().splitlines(), 1):
+            if not line.strip() or line.startswith("#"):
+                continue
+            try:
+                take_line(found, line, f"{path.name}:{place}")
+            except records.Bad as bad:
+                raise records.Bad(f"{path.name}:{place}: {bad}") from None
+    for recording in found:
+        if len(recording.said) != len(recording.answered):
+            raise records.Bad(f"{recording.where}: the last record has no reply")
+    return found
+
+
+def in_stream(recording):
+    """Whether its records can stand in a stream."""
+    return all(records.is_whole(said) for said in recording.said)
+
+
+def shown(data, of_bytes, to_text):
+    return to_text(of_bytes(data) or {"kind": "raw", "bytes": data})
+
+
+def differences(recording, answered):
+    """Where the replies that a recording asks for are not these, as lines of text."""
+    for place, (said, asked) in enumerate(zip(recording.said, recording.answered), 1):
+        reply = answered[place - 1] if place <= len(answered) else b""
+        if reply != asked:
+            yield f"{recording.name}, record {place}: {shown(said, records.record_of, records.record_text)}"
+            yield f"  expected {shown(asked, records.reply_of, records.reply_text)}"
+            yield f"  answered {shown(reply, records.reply_of, records.reply_text)}"
+    if len(answered) > len(recording.said):
+        yield f"{recording.name}: {len(answered) - len(recording.said)} replies too many"
+
+
+def model_differences(recording):
+    """The same, of model.py."""
+    session = model.Session()
+    return differences(recording, [session.step(said)[1] for said in recording.said])
