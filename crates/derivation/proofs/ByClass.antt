@@ -8,7 +8,7 @@ use Rattle.paper.specs.Words.{anyB}
 use Rattle.derivation.specs.Classes.{classOf, typesOf}
 use Rattle.derivation.specs.declared.nal.NalClass.{NalClass}
 use Rattle.derivation.specs.declared.nal.NalClass.the-variants.{Idr, Bla, Cra, Radl, Rasl, Other, Refused}
-use Rattle.derivation.proofs.Below.{every, bytes-agree}
+use Rattle.wire.proofs.Below.{every, bytes-agree}
 
 -- a class as a number, and back
 abbrev pub tagOf : NalClass → ℕ

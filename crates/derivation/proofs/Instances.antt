@@ -4,10 +4,9 @@ use mathlib.Core.List.{List}
 use Prim.Native.Nat.{ℕ, _<_, _≤_}
 use native.Mathlib.Omega.{arith}
 use lib.Dec.{leb}
-use Rattle.paper.specs.Words.{anyB}
 use Rattle.derivation.specs.declared.ref_lists.RefList.{RefList}
 use Rattle.derivation.proofs.Pad.{one-array}
-use Rattle.derivation.proofs.Runs.{count-is, table-get, placed-is, can-fill}
+use Rattle.derivation.proofs.Runs.{table-get, placed-is, can-fill}
 use mathlib.Core.Bool.{Bool, true, false}
 use lib.ListN.{length, getD}
 use lib.Seq.{ext-getD}
@@ -17,7 +16,7 @@ use Rattle.paper.specs.declared.Serial.{Serial}
 use Rattle.paper.specs.State as State
 use Rattle.paper.specs.Records.{Slice}
 use Rattle.paper.specs.RefLists.{list0, list1, lastIsOwn, candidates0, candidates1}
-use Rattle.derivation.specs.Lists.{blankSerial, serialAt, serialsIn, listOf, withLast, canFill, builtOf, candidatesOf, refsIn, CandidateCount, Ready, HoldsList}
+use Rattle.derivation.specs.Lists.{blankSerial, serialAt, serialsIn, listOf, withLast, builtOf, candidatesOf, Ready, HoldsList}
 
 module _ (x : State.Refs) (c : Serial) (f : Slice) where
   pub list0-is : f .ask0 .uses ≡ true → list0 x c f ≡ listOf x c (f .own) false (lastIsOwn f (candidates0 x (f .own) c)) (f .ask0 .active) (f .ask0 .modify) (f .ask0 .entries)
@@ -28,11 +27,6 @@ module _ (x : State.Refs) (c : Serial) (f : Slice) where
   unfolding list1 listOf candidatesOf
   list1-is e = rw e
 
--- with no counts there is no member, whatever lies in the run
-pub none-is : (xs : List ℕ) → refsIn xs (record { before = 0; after = 0; long = 0 }) ≡ State.noRefs
-unfolding refsIn
-none-is xs = refl
-
 -- the candidates of each list
 pub candidates-0 : (x : State.Refs) (own : Bool) (c : Serial) → candidatesOf x own false c ≡ candidates0 x own c
 unfolding candidatesOf
@@ -41,19 +35,6 @@ candidates-0 x own c = refl
 pub candidates-1 : (x : State.Refs) (own : Bool) (c : Serial) → candidatesOf x own true c ≡ candidates1 x own c
 unfolding candidatesOf
 candidates-1 x own c = refl
-
--- what a caller has counted and tested makes a list ready to be built
-pub ready : {x : State.Refs} {own : Bool} {n : ℕ} (second : Bool) (c : Serial) (active : ℕ) (modify : Bool) (es : List ℕ) → CandidateCount x own n → 0 < n → 1 ≤ active → active ≤ 16
-    → (modify ≡ true → length es ≡ active) → (modify ≡ true → anyB (λ (e : ℕ). leb n e) es ≡ false) → Ready x c own second active modify es
-ready second c active modify es k some least most bytes below =
-    let e = count-is second c k in
-    record {
-      some = rw (← e) some;
-      least = least;
-      most = most;
-      bytes = bytes;
-      below = λ t. rw (← e) (below t);
-    }
 
 -- what is built from a list that is ready is the paper's list
 pub built-is : {x : State.Refs} {c : Serial} {own second : Bool} (last : Bool) {active : ℕ} {modify : Bool} {es : List ℕ} → Ready x c own second active modify es

@@ -1,5 +1,4 @@
 pub mod Pad
-pub mod Below
 pub mod Mask
 pub mod Narrowing
 pub mod ByClass

@@ -3,7 +3,7 @@ use mathlib.Core.Path.{_≡_, refl, sym, _∙_}
 use mathlib.Core.Bool.{Bool, true, false, cond}
 use Prim.Native.Nat.{ℕ, _^_}
 use native.Mathlib.Omega.{arith}
-use borrow.Author.Tests.{ltb-true, lt-ltb}
+use borrow.Author.Tests.{ltb-true}
 use lib.IntN.{ℤ}
 use lib.Signed.{mag}
 use mir.Syntax.{w32}
@@ -33,7 +33,3 @@ in-fits z h n a b = record { sfits = ltb-true (mag z) (2 ^ 31) (in-test z h n a 
 
 pub out-test : (z : ℤ) (n : Narrow) → n ≡ narrowOf z → n ≡ Outside → in32 z ≡ false
 out-test z n a b = cond-out (in32 z) z (sym a ∙ b)
-
--- and the other way
-pub fits-test : (z : ℤ) → SFits w32 z → in32 z ≡ true
-fits-test z f = lt-ltb (mag z) (2 ^ 31) (f .sfits)

@@ -49,18 +49,3 @@ module _ (M : ℕ) (q : Prev) (l : ℕ) where
       go : (b : Bool) → cond b (P.Val (msbOf M q l) (pocOf M q l)) P.Outside ≡ P.Outside → b ≡ false
       go true e = absurd (let z : _≡_ {A = ℕ} 0 1 = cc in omega arith)
       go false e = refl
-
-module _ (w : Wish) where
-  pub wanted-is : (v : Wish) → wantedOf w ≡ W.Is v → (v ≡ w) × (wishIn32 w ≡ true)
-  wanted-is v e = go (wishIn32 w) e
-    where
-      go : (b : Bool) → cond b (W.Is w) W.Outside ≡ W.Is v → (v ≡ w) × (b ≡ true)
-      go true e = (cc, refl)
-      go false e = absurd (let z : _≡_ {A = ℕ} 0 1 = cc in omega arith)
-
-  pub wanted-out : wantedOf w ≡ W.Outside → wishIn32 w ≡ false
-  wanted-out e = go (wishIn32 w) e
-    where
-      go : (b : Bool) → cond b (W.Is w) W.Outside ≡ W.Outside → b ≡ false
-      go true e = absurd (let z : _≡_ {A = ℕ} 0 1 = cc in omega arith)
-      go false e = refl

@@ -9,7 +9,7 @@ use native.Mathlib.Omega.{arith}
 use native.Mathlib.Numerals.{add-one}
 use lib.Dec.{ltb, leb}
 use borrow.Author.Tests.{ltb-true, ltb-false, leb-true, leb-false, lt-ltb, le-leb}
-use lib.ListN.{length, getD, take, drop, set, replicate, length-append, length-take, length-drop, length-map, take-append-drop, List·getD-append, List·getD-eq-default, List·getD-map}
+use lib.ListN.{length, getD, take, drop, set, length-append, length-take, length-drop, length-map, take-append-drop, List·getD-append, List·getD-eq-default, List·getD-map}
 use lib.Seq.{take-add, take-at, drop-at, take-suc, take-length, getD-take, getD-at, getD-append-add}
 use Rattle.paper.specs.declared.Serial.{Serial}
 use Rattle.paper.specs.Words.{table, anyB}

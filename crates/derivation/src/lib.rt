@@ -1,5 +1,4 @@
 // The derivation layer: what a record's numbers say, by themselves. It knows of no store and of no record's bytes.
-pub mod flag_bytes;
 pub mod members;
 pub mod modular;
 pub mod nal;

@@ -1,11 +1,11 @@
 // "Ranges", and the ranges of number 2.
 use crate::CAPACITY;
-use crate::flag_bytes;
 use crate::modular;
 use crate::nal;
 use paper::Limits;
 use paper::LongEntry;
 use paper::ShortEntry;
+use wire::flag_bytes;
 ghost use mathlib.Core.Path.{_≡_};
 ghost use mathlib.Core.Bool.{_&&_};
 ghost use Prim.Native.Nat.{_^_, min};

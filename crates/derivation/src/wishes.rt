@@ -1,10 +1,10 @@
 // The POCs that the entries of a begin record ask for (8.3.2).
-use crate::flag_bytes;
 use crate::modular;
 use crate::modular::Narrow;
 use paper::LongEntry;
 use paper::ShortEntry;
 use paper::Wish;
+use wire::flag_bytes;
 ghost use mathlib.Core.Path.{_≡_};
 ghost use mathlib.Core.Bool.{cond};
 ghost use mathlib.Core.List.{[], _∷_};

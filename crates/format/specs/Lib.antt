@@ -1,2 +1,3 @@
 pub mod Cut
 pub mod Counts
+pub mod Reads

@@ -45,6 +45,9 @@ pub const KIND_PLACE: usize = 2;
 
 pub const BODY_PLACE: usize = 4;
 
+// Number 13: "body over 512 bytes".
+pub const BODY_LIMIT: usize = 512;
+
 // A reply's body "starts with a u16 refusal number". A refusal ends behind it; the rest of an accepted reply begins
 // there.
 pub const NUMBER_PLACE: usize = BODY_PLACE;

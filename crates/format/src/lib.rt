@@ -1,5 +1,6 @@
 // Records and replies in a stream of bytes: where the first ends, and whether a reply is whole.
 pub mod kinds;
+pub mod records;
 mod replies;
 
 pub use replies::behind;

@@ -1,15 +1,15 @@
 -- Pictures told apart by serial and by surface.
-use Prim.Native.Nat.{ℕ, zero, suc}
-use mathlib.Core.Path.{_≡_, refl, sym, ap, _∙_}
+use Prim.Native.Nat.{ℕ}
+use mathlib.Core.Path.{_≡_, sym}
 use mathlib.Core.Logic.{_⊎_, inl, inr}
 use mathlib.Core.List.{List, [], _∷_, _++_, map}
-use mathlib.Core.Bool.{Bool, true, false, cond, not, _&&_, _||_}
+use mathlib.Core.Bool.{Bool, false}
 use lib.Dec.{eqb}
-use borrow.Author.Tests.{eqb-true, eqb-false, eq-eqb, ne-eqb}
+use borrow.Author.Tests.{eqb-false, ne-eqb}
 use Rattle.paper.specs.declared.Picture.{Picture}
-use Rattle.paper.specs.Words.{keep, allB, anyB}
+use Rattle.paper.specs.Words.{keep}
 use Rattle.paper.proofs.Every.{All, Mem, all-keep, all-map, all-more, all-append, all-at}
-use Rattle.paper.proofs.Bools.{both, left, right, split, not-both, or-left, or-right}
+use Rattle.paper.proofs.Bools.{split}
 
 pub record Other (p q : Picture) : Type 0 where
   pub serial : eqb (p .serial .0) (q .serial .0) ≡ false

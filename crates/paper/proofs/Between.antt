@@ -1,5 +1,5 @@
 -- Exchanges whose ledger is in order keep demand 3, whoever wrote the replies.
-use Prim.Native.Nat.{ℕ, zero, suc, _+_, _≤_, _<_}
+use Prim.Native.Nat.{ℕ, _+_, _≤_}
 use mathlib.Core.Path.{_≡_, refl, sym, ap, _∙_, subst}
 use mathlib.Core.List.{List, [], _∷_, _++_, map, append-nil, append-assoc}
 use mathlib.Core.Bool.{Bool, true, false, cond, not, _&&_, _||_}
@@ -11,7 +11,7 @@ use Rattle.paper.specs.declared.Surface.{Surface}
 use Rattle.paper.specs.declared.Shown.{Shown}
 use Rattle.paper.specs.declared.Line.{Line}
 use Rattle.paper.specs.Words.{allB, anyB}
-use Rattle.paper.specs.Numbers.{u16, u32, sameSerial}
+use Rattle.paper.specs.Numbers.{u32, sameSerial}
 use Rattle.paper.specs.Kinds.{beginKind, discardKind, endKind, abandonKind, surfacePlace}
 use Rattle.paper.specs.Records.{kindOf}
 use Rattle.paper.specs.Output.{Tail}
@@ -25,7 +25,7 @@ use Rattle.paper.proofs.Every.{All, all-more, all-true}
 use Rattle.paper.proofs.Flow
 use Rattle.paper.proofs.Flow.{sep-once}
 use Rattle.paper.proofs.Tidy.{Tidy, is-none, no-of, tidy-blank, tidy-hear, ok-hear, ok-told}
-use Rattle.paper.proofs.Accounts.{From, from-all, accounts}
+use Rattle.paper.proofs.Accounts.{from-all, accounts}
 use Rattle.paper.proofs.Begins.{lines-tell, lines-told, current-told, Wants, none-want, few-want, all-want, wants-all}
 
 -- no line lies there

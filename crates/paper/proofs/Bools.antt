@@ -1,10 +1,9 @@
 -- Tests and lists of tests.
-use Prim.Native.Nat.{ℕ, zero, suc}
-use mathlib.Core.Path.{_≡_, refl, sym, ap, _∙_}
-use mathlib.Core.List.{List, [], _∷_, _++_, map}
-use mathlib.Core.Bool.{Bool, true, false, cond, not, _&&_, _||_}
+use Prim.Native.Nat.{ℕ}
+use mathlib.Core.Path.{_≡_, refl}
+use mathlib.Core.List.{List, [], _∷_, map}
+use mathlib.Core.Bool.{Bool, true, false, cond, _&&_, _||_}
 use native.Mathlib.Omega.{arith}
-use lib.Dec.{eqb}
 use Rattle.paper.specs.Words.{keep, allB, anyB}
 
 pub both : {a b : Bool} → a ≡ true → b ≡ true → (a && b) ≡ true
@@ -83,8 +82,3 @@ module _ {A : Type 0} where
   pub map-ext : {B : Type 0} (f g : A → B) → ((x : A) → f x ≡ g x) → (xs : List A) → map f xs ≡ map g xs
   map-ext f g e [] = refl
   map-ext f g e (x ∷ xs) = rw (e x, map-ext f g e xs)
-
-  pub keep-none : (f : A → Bool) (xs : List A) → allB (λ (x : A). not (f x)) xs ≡ true → keep f xs ≡ []
-  unfolding keep allB
-  keep-none f [] e = refl
-  keep-none f (x ∷ xs) e = split (f x) (λ p. not-both (not (f x)) (left (not (f x)) _ e) (rw p)) (λ p. rw p (keep-none f xs (right (not (f x)) _ e)))

@@ -2,25 +2,24 @@
 use Rattle.paper.specs.declared.Serial.{Serial}
 use Rattle.paper.specs.declared.Surface.{Surface}
 use Rattle.paper.specs.declared.Shown.{Shown}
-use Rattle.paper.specs.Words.{keep, allB, anyB, Test, _gives_, first}
-use Rattle.paper.specs.Numbers.{serialNos, surfaceNos, u8, u16, u32, missing, sameSerial}
+use Rattle.paper.specs.Words.{allB, anyB}
+use Rattle.paper.specs.Numbers.{serialNos, surfaceNos, u32, missing, sameSerial}
 use Rattle.paper.specs.Poc.{in32, eqZ}
 use Rattle.paper.specs.Output.{Tail}
 use Rattle.paper.specs.declared.Line.{Line}
 use Rattle.paper.specs.Ledger.{Event, Hand, Throw, Free, waitsAs, waits, lies, may, off, free, upon, mayAll, uponAll, events, names}
-use Prim.Native.Nat.{ℕ, zero, suc, _+_, _*_, _≤_, _<_}
-use mathlib.Core.Path.{_≡_, refl, sym, ap, _∙_, subst}
+use Prim.Native.Nat.{ℕ, zero, suc, _+_, _<_}
+use mathlib.Core.Path.{_≡_, refl, ap}
 use mathlib.Core.List.{List, [], _∷_, _++_, map}
-use mathlib.Core.Bool.{Bool, true, false, cond, not, _&&_, _||_}
+use mathlib.Core.Bool.{Bool, true, false, not, _||_}
 use native.Mathlib.Omega.{arith}
 use lib.Dec.{eqb, ltb}
-use lib.ListN.{length, getD}
+use lib.ListN.{getD}
 use lib.IntN.{ℤ, pos, negsuc}
-use borrow.Author.Tests.{eqb-true, eqb-false, eq-eqb, ne-eqb, ltb-true}
-use Rattle.paper.proofs.Bools as B
-use Rattle.paper.proofs.Bools.{both, left, right, split, not-both}
+use borrow.Author.Tests.{eqb-true, ltb-true}
+use Rattle.paper.proofs.Bools.{left, right, split, not-both}
 use Rattle.paper.proofs.Events.{Runs, runs-first, runs-rest}
-use Rattle.paper.proofs.Every.{All, all-keep, all-map, all-more}
+use Rattle.paper.proofs.Every.{All, all-keep, all-map}
 use Rattle.paper.proofs.ReadBack.{Word, SerialWord, FitShown, FitTail}
 
 pub record FitLine (e : Line) : Type 0 where

@@ -1,5 +1,5 @@
 -- Demand 3 says something: short exchanges, each under the sentence that it breaks. None of them is kept, and the sample that they differ from is.
-use Prim.Native.Nat.{ℕ, _+_, _*_, _≤_}
+use Prim.Native.Nat.{ℕ, _*_, _≤_}
 use mathlib.Core.Path.{_≡_, refl, ap}
 use mathlib.Core.List.{List, [], _∷_, _++_}
 use mathlib.Core.Bool.{true, false}

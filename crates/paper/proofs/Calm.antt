@@ -1,5 +1,5 @@
 -- Between records nothing is due by reorder or latency: a finish hands out until that holds, and nothing else makes one wait.
-use Prim.Native.Nat.{ℕ, zero, suc, _+_, _-_, _*_, _^_, _/_, _≤_, _<_, zero-le}
+use Prim.Native.Nat.{ℕ, zero, suc, _≤_, zero-le}
 use mathlib.Core.Path.{_≡_, refl, sym, ap, _∙_, subst}
 use mathlib.Core.Logic.{_⊎_, inl, inr, ⊎-elim}
 use mathlib.Core.List.{List, [], _∷_, _++_, map}
@@ -7,13 +7,12 @@ use mathlib.Core.Bool.{Bool, true, false, cond, not, _&&_, _||_}
 use native.Mathlib.Omega.{arith}
 use lib.Dec.{eqb, ltb, leb}
 use lib.ListN.{length, length-map}
-use borrow.Author.Tests.{ltb-true, ltb-false, le-ltb, lt-ltb}
+use borrow.Author.Tests.{ltb-false, le-ltb}
 use Rattle.paper.specs.declared.Mark.{Mark}
 use Rattle.paper.specs.declared.Picture.{Picture}
 use Rattle.paper.specs.declared.Found.{Found}
 use Rattle.paper.specs.declared.Limits.{Limits}
 use Rattle.paper.specs.declared.Current.{Current}
-use Rattle.paper.specs.declared.Now.{Now}
 use Rattle.paper.specs.Words.{keep, anyB}
 use Rattle.paper.specs.Records.{Fields, limitsOf, fieldsOf}
 use Rattle.paper.specs.State.{Session, fresh, isMarked, onNow}
@@ -22,11 +21,10 @@ use Rattle.paper.specs.Output.{Moved, still, turns, lowest, leave, stay,
 use Rattle.paper.specs.Begin.{markedStore, startsOver, noPrior, roomMade}
 use Rattle.paper.specs.Calls.{raised, stored, finished, drained, drainedNow, discarded, configuredSession}
 use Rattle.paper.specs.Step.{Decided, decideOf, stepOf, sessionAfter}
-use Rattle.paper.specs.declared.Now.the-variants as Now
 use Rattle.paper.specs.declared.Found.the-variants.{Nothing, The}
 use Rattle.paper.proofs.Bools as B
-use Rattle.paper.proofs.Bools.{both, left, right, split, not-both, by-case}
-use Rattle.paper.proofs.Moves.{others, lowest-of}
+use Rattle.paper.proofs.Bools.{split, not-both, by-case}
+use Rattle.paper.proofs.Moves.{lowest-of}
 use Rattle.paper.proofs.Quiet.{waitings, fewer, one-fewer, few-wait, lowest-none, emptied-leaves}
 use Rattle.paper.proofs.Sizes.{done-fewer, done-one}
 use Rattle.paper.proofs.Lasts.{by-begin}

@@ -1,7 +1,5 @@
 -- Demand 3, proved: the ledger told from a session's exchanges is a function of the session and in order, and the rest follows for any exchanges.
-use Prim.Native.Nat.{ℕ}
-use mathlib.Core.Path.{_≡_, sym, ap, _∙_}
-use mathlib.Core.List.{List}
+use mathlib.Core.Path.{sym, ap, _∙_}
 use Rattle.paper.specs.State.{fresh}
 use Rattle.paper.specs.Step.{answeredOf}
 use Rattle.paper.specs.Ledger.{Ledger}

@@ -1,20 +1,17 @@
 -- The events of a tail: grouped by kind they do what they do in the order in which they happened.
 use Rattle.paper.specs.declared.Serial.{Serial}
-use Rattle.paper.specs.declared.Surface.{Surface}
 use Rattle.paper.specs.declared.Shown.{Shown}
-use Rattle.paper.specs.Words.{keep, allB, anyB}
-use Rattle.paper.specs.Poc.{eqZ}
+use Rattle.paper.specs.Words.{allB, anyB}
 use Rattle.paper.specs.Output.{Tail, joined}
 use Rattle.paper.specs.declared.Line.{Line}
 use Rattle.paper.specs.Ledger.{Event, Hand, Throw, Free, waitsAs, waits, lies, quietAt, may, off, free, upon, mayAll, uponAll, events}
-use Prim.Native.Nat.{ℕ, zero, suc}
+use Prim.Native.Nat.{ℕ}
 use mathlib.Core.Path.{_≡_, refl, sym, ap, _∙_}
-use mathlib.Core.List.{List, [], _∷_, _++_, map, append-assoc, map-append, map-map, append-nil}
-use mathlib.Core.Bool.{Bool, true, false, cond, not, _&&_, _||_}
+use mathlib.Core.List.{List, [], _∷_, _++_, map, append-assoc, map-append}
+use mathlib.Core.Bool.{Bool, true, false, not, _&&_, _||_}
 use lib.Dec.{eqb}
-use borrow.Author.Tests.{eqb-true, eqb-false, eq-eqb, ne-eqb}
-use lib.IntN.{ℤ}
-use Rattle.paper.proofs.Bools.{both, left, right, split, not-both, any-mono, all-mono, any-keep, any-map, all-map, any-gives, keep-map, map-ext}
+use borrow.Author.Tests.{eqb-true, eqb-false, ne-eqb}
+use Rattle.paper.proofs.Bools.{both, left, right, split, not-both, any-mono, all-mono, any-keep, any-map, all-map, any-gives, keep-map}
 
 pub record Runs (es : List Event) (H K : List Line) : Type 0 where
   pub allowed : mayAll es H ≡ true

@@ -1,9 +1,9 @@
 -- What holds of every element of a list, and what stands in one.
 use Prim.Native.Nat.{ℕ, zero, suc}
-use mathlib.Core.Path.{_≡_, refl, sym, ap, _∙_}
+use mathlib.Core.Path.{_≡_, refl}
 use mathlib.Core.Logic.{_⊎_, inl, inr}
 use mathlib.Core.List.{List, [], _∷_, _++_, map}
-use mathlib.Core.Bool.{Bool, true, false, cond, not, _&&_, _||_}
+use mathlib.Core.Bool.{Bool, true, false, _||_}
 use lib.ListN.{getD, set}
 use Rattle.paper.specs.Words.{keep, allB, anyB, table}
 use Rattle.paper.proofs.Bools.{both, left, right, split, not-both, or-left, or-right}

@@ -1,12 +1,12 @@
 -- No reply is longer than 512 bytes and no store longer than 16, from any session of at most 16 stored pictures: a tail holds what the store held.
-use Prim.Native.Nat.{ℕ, zero, suc, _+_, _-_, _*_, _%_, _≤_, _<_, zero-le, min}
-use mathlib.Core.Path.{_≡_, refl, sym, ap, _∙_}
+use Prim.Native.Nat.{ℕ, zero, suc, _+_, _-_, _%_, _≤_, _<_, zero-le, min}
+use mathlib.Core.Path.{_≡_, refl, ap, _∙_}
 use mathlib.Core.List.{List, [], _∷_, _++_, map}
 use mathlib.Core.Bool.{Bool, true, false, cond, not, _&&_, _||_}
 use native.Mathlib.Omega.{arith}
 use lib.Dec.{eqb, ltb, leb}
 use lib.IntN.{ℤ}
-use lib.ListN.{length, getD, set, length-append, length-map, length-set}
+use lib.ListN.{length, getD, length-append, length-map, length-set}
 use borrow.Author.Tests.{eqb-true, leb-true, leb-false}
 use Rattle.paper.specs.declared.Serial.{Serial}
 use Rattle.paper.specs.declared.Limits.{Limits}
@@ -14,21 +14,20 @@ use Rattle.paper.specs.declared.Picture.{Picture}
 use Rattle.paper.specs.declared.Current.{Current}
 use Rattle.paper.specs.declared.Now.{Now}
 use Rattle.paper.specs.declared.Now.the-variants as Now
-use Rattle.paper.specs.declared.Wish.{Wish}
-use Rattle.paper.specs.Words.{keep, allB, table, Test, _gives_, first}
+use Rattle.paper.specs.Words.{keep, allB, table}
 use Rattle.paper.specs.Numbers.{u8, bit, bytes32, missing, serialNos}
 use Rattle.paper.specs.Kinds.{replyTo, malformedReply}
 use Rattle.paper.specs.Records.{Fields, ListAsk, Slice, entries0, entries1, fieldsOf, sliceOf}
 use Rattle.paper.specs.State.{Session, isCurrent, onNow, modulus}
 use Rattle.paper.specs.Nal.{taken, irap, idr}
 use Rattle.paper.specs.Ranges.{longOk, entriesOf, falling, rising, beginRanges, activeOk, listsRanges}
-use Rattle.paper.specs.Sets.{Wishes, wishesOf, usedBy, unusedBy, inOrder, setsOf, shortSet, longSet}
-use Rattle.paper.specs.Output.{Tail, quiet, joined, Moved, still, andThen, cleared, emptied, handWhile, due}
+use Rattle.paper.specs.Sets.{Wishes, wishesOf, usedBy, inOrder, setsOf, shortSet, longSet}
+use Rattle.paper.specs.Output.{Tail, quiet, joined, still, andThen, cleared, emptied, due}
 use Rattle.paper.specs.Begin.{wishes, unmarkedStore, sets, markedStore, roomMade, poc}
 use Rattle.paper.specs.RefLists.{candidates0, candidates1, placed, lastIsOwn, list0, list1}
 use Rattle.paper.specs.Calls.{raised, stored, full, finished, drained, drainedNow, dropped, discarded}
-use Rattle.paper.specs.Replies.{Reply, words, tailBytes, begunBytes, bytesOf}
-use Rattle.paper.specs.Step.{Decided, refused, accepted, begunOf, listsRefusal, decideOf}
+use Rattle.paper.specs.Replies.{words, tailBytes, begunBytes, bytesOf}
+use Rattle.paper.specs.Step.{Decided, refused, accepted, listsRefusal, decideOf}
 use Rattle.paper.proofs.Bools.{left, right, split, not-both, by-case}
 use Rattle.paper.proofs.Quiet.{few-wait, emptied-leaves}
 use Rattle.paper.proofs.Sizes.{Shrinks, shrinks-then, shrinks-still, shrinks-while, shrinks-cleared, shrinks-emptied, shrinks-room, marked-length, tail-length, tail-fits, words-length}

@@ -8,18 +8,18 @@ use Rattle.paper.specs.Output.{Tail}
 use Rattle.paper.specs.declared.Line.{Line}
 use Rattle.paper.specs.Ledger.{Event, Hand, Throw, Free, waitsAs, waits, lies, quietAt, may, off, free, upon, mayAll, uponAll, events}
 use Rattle.paper.specs.Accounts.{count, serials, surfaces, wanting}
-use Prim.Native.Nat.{ℕ, zero, suc, _+_, _≤_, _<_}
-use mathlib.Core.Path.{_≡_, refl, sym, ap, _∙_, subst}
+use Prim.Native.Nat.{ℕ, _+_, _≤_}
+use mathlib.Core.Path.{_≡_, refl, sym, ap, _∙_}
 use mathlib.Core.List.{List, [], _∷_, _++_, map, append-nil, append-assoc, map-append, map-map}
 use mathlib.Core.Bool.{Bool, true, false, cond, not, _&&_, _||_}
 use native.Mathlib.Omega.{arith}
-use lib.Dec.{eqb, ltb}
-use borrow.Author.Tests.{eqb-true, eqb-false, eq-eqb, ne-eqb}
+use lib.Dec.{eqb}
+use borrow.Author.Tests.{eqb-true}
 use Rattle.paper.proofs.Bools as B
-use Rattle.paper.proofs.Bools.{both, left, right, split, not-both, or-left, or-right}
+use Rattle.paper.proofs.Bools.{both, left, right, split, not-both}
 use Rattle.paper.proofs.Every.{All, all-keep, all-map, all-more, keep-all}
 use Rattle.paper.proofs.Apart.{flip}
-use Rattle.paper.proofs.Moves.{same-eqb, wanting-is}
+use Rattle.paper.proofs.Moves.{wanting-is}
 
 pub record Off2 (e x : Line) : Type 0 where
   pub serial : eqb (e .serial .0) (x .serial .0) ≡ false

@@ -2,11 +2,10 @@
 use Prim.Native.Nat.{ℕ, _+_}
 use mathlib.Core.Path.{_≡_, refl, sym, ap}
 use mathlib.Core.List.{List}
-use mathlib.Core.Bool.{Bool, true}
+use mathlib.Core.Bool.{true}
 use native.Mathlib.Omega.{arith}
 use lib.Dec.{eqb}
 use borrow.Author.Tests.{eq-eqb, ne-eqb}
-use Rattle.paper.specs.Numbers.{u16}
 use Rattle.paper.specs.Kinds.{replyTo}
 use Rattle.paper.specs.Records.{kindOf}
 use Rattle.paper.specs.State.{Session}

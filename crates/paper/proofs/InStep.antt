@@ -1,12 +1,11 @@
 -- In every session the previous Tid0 picture's MSB is a multiple of M and its lsb is below M; so the POC of an accepted begin is the nearest to its
 -- predecessor's.
-use Prim.Native.Nat.{ℕ, _+_, _-_, _^_, _/_, _≤_, _<_, min}
+use Prim.Native.Nat.{ℕ, _-_, _/_, _≤_, _<_, min}
 use mathlib.Core.Path.{_≡_, refl, sym, ap, _∙_}
 use mathlib.Core.List.{List, [], _∷_}
-use mathlib.Core.Bool.{Bool, true, false, cond, not, _&&_, _||_}
+use mathlib.Core.Bool.{Bool, true, false, not, _&&_, _||_}
 use native.Mathlib.Omega.{arith}
 use lib.Dec.{eqb, ltb, leb}
-use lib.ListN.{length}
 use lib.IntN.{ℤ, pos, sucℤ, predℤ, _+ℤ_, _-ℤ_, _*ℤ_, sucℤ-*ℤ, predℤ-*ℤ, zero-*ℤ}
 use borrow.Author.Tests.{ltb-true, leb-true}
 use Rattle.paper.specs.declared.Limits.{Limits}
@@ -20,7 +19,7 @@ use Rattle.paper.specs.Records.{Fields, limitsOf, fieldsOf}
 use Rattle.paper.specs.State.{Session, fresh, onNow, modulus}
 use Rattle.paper.specs.Nal.{taken, irap, idr}
 use Rattle.paper.specs.Ranges.{longOk, entriesOf, falling, rising, beginRanges, configureRanges}
-use Rattle.paper.specs.Poc.{msbOf, pocOf}
+use Rattle.paper.specs.Poc.{msbOf}
 use Rattle.paper.specs.Nearest.{Nearest}
 use Rattle.paper.specs.Begin.{startsOver, prevFor, msb, poc, begunCurrent}
 use Rattle.paper.specs.Calls.{prevAfter, prevNow}

@@ -1,8 +1,8 @@
 -- What holds of every stored picture, and does not ask whether it waits, lasts.
 use Prim.Native.Nat.{ℕ, zero, suc}
-use mathlib.Core.Path.{_≡_, refl, sym, ap, _∙_, subst}
-use mathlib.Core.List.{List, [], _∷_, _++_, map}
-use mathlib.Core.Bool.{Bool, true, false, cond, not, _&&_, _||_}
+use mathlib.Core.Path.{_≡_, refl}
+use mathlib.Core.List.{List, _++_, map}
+use mathlib.Core.Bool.{Bool, true, false, cond, not, _||_}
 use lib.ListN.{length}
 use lib.Dec.{eqb}
 use Rattle.paper.specs.declared.Serial.{Serial}
@@ -14,12 +14,12 @@ use Rattle.paper.specs.Words.{keep}
 use Rattle.paper.specs.Records.{Fields}
 use Rattle.paper.specs.State.{Session, isMarked, modulus}
 use Rattle.paper.specs.Sets.{Wishes, usedBy, unusedBy, isIn, marked, inOrder, markAll, markOnly, longSet, longMarked, setsOf, marksOf, unmarkedIf}
-use Rattle.paper.specs.Output.{Moved, still, andThen, turns, lowest, leave, stay, done, handFound, handOut, cleared, emptied, inUse, removed, handWhile, due, beforeDecoding}
+use Rattle.paper.specs.Output.{Moved, still, turns, lowest, leave, stay, done, handFound, handOut, cleared, emptied, inUse, removed, handWhile, due, beforeDecoding}
 use Rattle.paper.specs.Begin.{wishes, startsOver, markedStore}
 use Rattle.paper.specs.declared.Mark.the-variants as Mark
 use Rattle.paper.specs.declared.Found.the-variants.{Nothing, The}
-use Rattle.paper.proofs.Bools.{split, by-case}
-use Rattle.paper.proofs.Every.{All, all-keep, all-map, every}
+use Rattle.paper.proofs.Bools.{by-case}
+use Rattle.paper.proofs.Every.{All, all-keep, all-map}
 
 module _ (P : Picture → Type 0) (last : (n : ℕ) (p : Picture) → P p → P (done n p)) where
   all-hand : (always : Bool) (ps : List Picture) → All P ps → All P (handOut always ps .pics)

@@ -1,20 +1,20 @@
 -- Demand 3, proved.
-use Prim.Native.Nat.{ℕ, zero, suc, _+_, _≤_, _<_}
-use mathlib.Core.Path.{_≡_, refl, sym, ap, _∙_, subst}
-use mathlib.Core.List.{List, [], _∷_, _++_, map}
-use mathlib.Core.Bool.{Bool, true, false, cond, _&&_}
+use Prim.Native.Nat.{ℕ}
+use mathlib.Core.Path.{_≡_, refl, ap, _∙_}
+use mathlib.Core.List.{List, [], _∷_}
+use mathlib.Core.Bool.{Bool, true, _&&_}
 use native.Mathlib.Omega.{arith}
 use lib.Dec.{ltb}
 use Rattle.paper.specs.Words.{allB}
 use Rattle.paper.specs.State.{Session, fresh}
-use Rattle.paper.specs.Replies.{Reply, bytesOf}
+use Rattle.paper.specs.Replies.{Reply}
 use Rattle.paper.specs.Step.{decideOf, stepOf, sessionAfter}
-use Rattle.paper.specs.Ledger.{Ledger, Exchange, names, blank, tell, heard, hear, told, readReply}
+use Rattle.paper.specs.Ledger.{Ledger, names, blank, tell, heard, hear, told, readReply}
 use Rattle.paper.specs.Statement.{exchanges, ledgerOf, Bytes}
 use Rattle.paper.proofs.Bools.{left, right}
 use Rattle.paper.proofs.ReadBack.{read-back}
 use Rattle.paper.proofs.Heard.{hears}
-use Rattle.paper.proofs.Sound.{Sound, Good, good-step}
+use Rattle.paper.proofs.Sound.{Sound, good-step}
 
 -- one exchange
 pub told-step : (s : Session) (r : List ℕ) → Sound s → allB (λ (b : ℕ). ltb b 256) r ≡ true → tell (ledgerOf s) r (readReply (stepOf s r 512 .bytes)) ≡ ledgerOf (stepOf s r 512 .next)

@@ -1,25 +1,24 @@
 -- The sets of a begun picture name missing entries and pictures that are still stored after step 5.
 use Prim.Native.Nat.{ℕ, zero, suc}
-use mathlib.Core.Path.{_≡_, refl, sym, ap, _∙_, subst}
+use mathlib.Core.Path.{_≡_, refl, sym, ap, _∙_}
 use mathlib.Core.Logic.{_⊎_, inl, inr, ⊎-elim}
 use mathlib.Core.List.{List, [], _∷_, _++_, map}
 use mathlib.Core.Bool.{Bool, true, false, cond, not, _&&_, _||_}
 use native.Mathlib.Omega.{arith}
 use lib.Dec.{eqb}
 use lib.ListN.{length}
-use lib.IntN.{ℤ}
-use borrow.Author.Tests.{eqb-true, eqb-false, eq-eqb, ne-eqb}
+use borrow.Author.Tests.{eqb-true, eq-eqb}
 use Rattle.paper.specs.declared.Serial.{Serial}
 use Rattle.paper.specs.declared.Wish.{Wish}
 use Rattle.paper.specs.declared.Mark.{Mark}
 use Rattle.paper.specs.declared.Picture.{Picture}
 use Rattle.paper.specs.declared.Found.{Found}
-use Rattle.paper.specs.Words.{keep, allB, anyB}
+use Rattle.paper.specs.Words.{keep, anyB}
 use Rattle.paper.specs.Numbers.{missing, aSerial, sameSerial}
 use Rattle.paper.specs.Records.{Fields}
 use Rattle.paper.specs.State.{Session, isMarked, isShortTerm, modulus}
-use Rattle.paper.specs.Sets.{Wishes, usedBy, unusedBy, isIn, marked, marksOf, firstOf, longMatch, shortMatch, markAll, markOnly, inOrder, longSet, shortSet, longMarked, setsOf, unmarkedIf}
-use Rattle.paper.specs.Output.{Moved, still, andThen, turns, lowest, leave, stay, done, handFound, handOut, cleared, emptied, inUse, removed, handWhile, due, beforeDecoding}
+use Rattle.paper.specs.Sets.{Wishes, usedBy, unusedBy, isIn, marked, marksOf, firstOf, longMatch, shortMatch, markAll, markOnly, inOrder, longSet, shortSet, longMarked, setsOf}
+use Rattle.paper.specs.Output.{Moved, still, turns, lowest, leave, stay, done, handFound, handOut, inUse, removed, handWhile, due, beforeDecoding}
 use Rattle.paper.specs.Begin.{wishes, sets, unmarkedStore, markedStore, startsOver, roomMade}
 use Rattle.paper.specs.declared.Line.{Line}
 use Rattle.paper.specs.Ledger.{names}
@@ -28,9 +27,9 @@ use Rattle.paper.specs.declared.Mark.the-variants as Mark
 use Rattle.paper.specs.declared.Found.the-variants.{Nothing, The}
 use Rattle.paper.proofs.Bools as B
 use Rattle.paper.proofs.Bools.{both, left, right, split, not-both, or-left, or-right, by-case}
-use Rattle.paper.proofs.Every.{All, Mem, all-append, all-both, all-map, all-more, all-true, any-kept, every}
-use Rattle.paper.proofs.Apart.{Other, Distinct, Told, told-apart}
-use Rattle.paper.proofs.Moves.{Tells, others, lowest-of, same-eqb, tells-hand, tells-still, tells-turns, tells-removed}
+use Rattle.paper.proofs.Every.{All, all-append, all-both, all-more, all-true, any-kept, every}
+use Rattle.paper.proofs.Apart.{Distinct, Told, told-apart}
+use Rattle.paper.proofs.Moves.{Tells, lowest-of, same-eqb, tells-hand, tells-still, tells-removed}
 
 -- a stored picture of serial n that has a mark
 abbrev pub marks : Serial → Picture → Bool

@@ -1,32 +1,30 @@
 -- What the store does is what its tail tells.
-use Rattle.paper.specs.declared.Serial.{Serial}
 use Rattle.paper.specs.declared.Surface.{Surface}
 use Rattle.paper.specs.declared.Picture.{Picture}
-use Rattle.paper.specs.declared.Shown.{Shown}
 use Rattle.paper.specs.declared.Found.{Found}
 use Rattle.paper.specs.Words.{keep, allB, anyB}
 use Rattle.paper.specs.State.{isMarked}
 use Rattle.paper.specs.Poc.{eqZ}
-use Rattle.paper.specs.Output.{Tail, joined, quiet, Moved, still, andThen, turns, below, lowest, shown, done, leave, stay, handFound, handOut, cleared, emptied, inUse, removed, handWhile}
+use Rattle.paper.specs.Output.{Tail, joined, Moved, still, andThen, turns, below, lowest, shown, done, leave, stay, handFound, handOut, cleared, emptied, inUse, removed, handWhile}
 use Rattle.paper.specs.declared.Line.{Line}
-use Rattle.paper.specs.Ledger.{Event, Hand, Throw, Free, waitsAs, waits, lies, quietAt, may, off, free, upon, mayAll, uponAll, events}
+use Rattle.paper.specs.Ledger.{Hand, Throw, Free, waitsAs, waits, lies, quietAt, may, off, free, upon, mayAll, uponAll, events}
 use Rattle.paper.specs.Statement.{line}
 use Prim.Native.Nat.{ℕ, zero, suc}
 use mathlib.Core.Path.{_≡_, refl, sym, ap, _∙_, subst}
 use mathlib.Core.Logic.{_⊎_, inl, inr, ⊎-elim}
-use mathlib.Core.List.{List, [], _∷_, _++_, map, map-map}
+use mathlib.Core.List.{List, [], _∷_, map, map-map}
 use mathlib.Core.Bool.{Bool, true, false, cond, not, _&&_, _||_}
 use native.Mathlib.Omega.{arith}
 use lib.Dec.{eqb}
 use lib.ListN.{length}
-use borrow.Author.Tests.{eqb-true, eqb-false, eq-eqb, ne-eqb}
+use borrow.Author.Tests.{eq-eqb}
 use lib.IntN.{ℤ, pos, negsuc}
 use Rattle.paper.specs.declared.Found.the-variants.{Nothing, The}
 use Rattle.paper.proofs.Bools as B
-use Rattle.paper.proofs.Bools.{both, left, right, split, not-both, or-left, or-right, by-case}
+use Rattle.paper.proofs.Bools.{both, left, right, split, not-both, or-right, by-case}
 use Rattle.paper.proofs.Events.{Runs, runs-append, runs-join}
 use Rattle.paper.proofs.Every.{All, Mem, all-keep, all-map, all-more, all-true, any-mem, keep-all, keep-by, map-by}
-use Rattle.paper.proofs.Apart.{Other, Distinct, Told, Same, told-apart, distinct-keep, distinct-map, flip}
+use Rattle.paper.proofs.Apart.{Other, Distinct, Told, told-apart, distinct-keep, distinct-map, flip}
 
 pub record Tells (ps : List Picture) (m : Moved) : Type 0 where
   pub runs : Runs (events (m .tail)) (map line ps) (map line (m .pics))
@@ -148,9 +146,6 @@ module _ (p : Picture) (ps : List Picture) (d : Distinct ps) (i : Mem p ps) wher
   drop-one = split (p .waiting) (λ w. rw w (runs-append (throws w) frees)) (λ w. rw (w, is-off w) frees)
 
 -- the lowest that waits is one of the store
-record LowestOf (b : Found) (ps : List Picture) (p : Picture) : Type 0 where
-  there : (b ≡ The p) ⊎ (Mem p ps × (p .waiting ≡ true))
-
 pub lowest-of : (b : Found) (ps : List Picture) (p : Picture) → lowest b ps ≡ The p → (b ≡ The p) ⊎ (Mem p ps × (p .waiting ≡ true))
 unfolding lowest
 lowest-of b [] p e = inl e

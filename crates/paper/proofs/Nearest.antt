@@ -1,21 +1,19 @@
 -- The POC is the only whole number of remainder l in the window of M around the previous POC, for every M = 2^k at once: a multiple of M and a rest
 -- below M are told apart, and the three cases of the MSB are the three ways into the window.
-use mathlib.Core.Path.{_≡_, refl, sym, ap, ap₂, _∙_, subst}
+use mathlib.Core.Path.{_≡_, sym, ap, _∙_}
 use mathlib.Core.Bool.{Bool, true, false, cond, not, _&&_}
 use mathlib.Core.Logic.{_⊎_, inl, inr, ⊎-elim}
 use Prim.Native.Nat.{ℕ, suc, _+_, _-_, _*_, _/_, _%_, _^_, _<_, _≤_}
-use native.Mathlib.Nat.{add-mul, suc-mul, mul-le-mul-right, mod-lt, div-add-mod', pow-suc, pow-zero, mul-comm, mul-mod-left, eq-or-lt-of-le}
+use native.Mathlib.Nat.{add-mul, suc-mul, mul-le-mul-right, mod-lt, div-add-mod', pow-suc, mul-mod-left, eq-or-lt-of-le}
 use native.Mathlib.Omega.{arith}
-use lib.Arith.{digits-mod}
 use lib.Dec.{T, ltb, leb, ltb→lt, leb→le, nltb→le, nleb→lt}
 use lib.Pow.{pow-pos}
-use lib.IntN.{ℤ, pos, negsuc, negℤ, sucℤ, predℤ, _+ℤ_, _-ℤ_, _*ℤ_, +ℤ-one, sucℤ-*ℤ, predℤ-*ℤ}
-use lib.Signed.{_≤ℤ_, _<ℤ_}
+use lib.IntN.{ℤ, pos, negsuc, negℤ, sucℤ, predℤ, _+ℤ_, _-ℤ_, _*ℤ_, sucℤ-*ℤ, predℤ-*ℤ}
 use mir.Facts.{and-yes, and-no}
 use Rattle.paper.specs.declared.Prev.the-variants.{Tid0}
 use Rattle.paper.specs.Poc.{modZ, msbOf, pocOf}
 use Rattle.paper.specs.Nearest.{Nearest}
-use Rattle.paper.proofs.Whole.{up, dn, up-add, up-sub, up-mul, dn-mul, up-pos, dn-pos, up-neg-is, dn-neg-is, up-neg, dn-neg, ext, lt-of, le-of, to-lt, to-le, of-eq}
+use Rattle.paper.proofs.Whole.{up, dn, up-add, up-sub, up-mul, dn-mul, up-pos, dn-pos, up-neg-is, dn-neg-is, ext, lt-of, le-of, to-lt, to-le, of-eq}
 
 either : {X Y : Type 0} (t : Bool) → (T t → X) → (T (not t) → Y) → X ⊎ Y
 either true f g = inl (f tt)

@@ -1,36 +1,31 @@
 -- Stored ≤ capacity ≤ 16 and k ≤ 16 in every session from fresh, and no count past 2,147,483,647: such a session is its own normal form.
-use Prim.Native.Nat.{ℕ, _+_, _≤_, _<_, min, zero-le}
-use mathlib.Core.Path.{_≡_, refl, sym, ap, _∙_}
+use Prim.Native.Nat.{ℕ, _+_, _≤_, min, zero-le}
+use mathlib.Core.Path.{_≡_, refl}
 use mathlib.Core.List.{List, [], _∷_, _++_, map}
-use mathlib.Core.Bool.{Bool, true, false, cond, not, _&&_, _||_}
+use mathlib.Core.Bool.{Bool, true, false, not, _&&_}
 use native.Mathlib.Omega.{arith}
 use native.Mathlib.Nat.{min-eq-left}
-use lib.Dec.{eqb, ltb, leb}
+use lib.Dec.{ltb, leb}
 use lib.ListN.{length, take}
 use lib.Seq.{take-all}
-use borrow.Author.Tests.{ltb-true, ltb-false, leb-true, leb-false}
+use borrow.Author.Tests.{ltb-true, leb-true, leb-false}
 use Rattle.paper.specs.declared.Limits.{Limits}
 use Rattle.paper.specs.declared.Picture.{Picture}
-use Rattle.paper.specs.declared.Mark.{Mark}
 use Rattle.paper.specs.declared.Current.{Current}
-use Rattle.paper.specs.declared.Now.{Now}
-use Rattle.paper.specs.declared.Now.the-variants as Now
-use Rattle.paper.specs.Numbers.{replyLimit}
 use Rattle.paper.specs.Records.{Fields, limitsOf, fieldsOf}
-use Rattle.paper.specs.State.{Session, fresh, isCurrent, onNow, taken16, countLimit, counted, normal}
+use Rattle.paper.specs.State.{Session, fresh, onNow, countLimit, counted, normal}
 use Rattle.paper.specs.Ranges.{configureRanges}
-use Rattle.paper.specs.Sets.{marked}
-use Rattle.paper.specs.Output.{due, emptied, still}
+use Rattle.paper.specs.Output.{due, still}
 use Rattle.paper.specs.Begin.{startsOver, noPrior, markedStore, roomMade, begunSession}
 use Rattle.paper.specs.Calls.{raised, stored, full, finished, drained, drainedNow, discarded}
 use Rattle.paper.specs.Step.{Decided, decideOf, stepOf, sessionAfter}
 use Rattle.paper.proofs.Bools.{not-both, by-case}
-use Rattle.paper.proofs.Every.{All, all-map, all-append, all-first}
+use Rattle.paper.proofs.Every.{All, all-map, all-append}
 use Rattle.paper.proofs.Lasts.{all-while, all-before, by-begin}
 use Rattle.paper.proofs.Quiet.{emptied-leaves}
 use Rattle.paper.proofs.Sizes.{shrinks-room, marked-length}
 use Rattle.paper.proofs.Fits.{finish-shrinks, one-more}
-use Rattle.paper.proofs.Ways.{Accepted, by-ways}
+use Rattle.paper.proofs.Ways.{by-ways}
 
 abbrev pub Counts : Picture → Type 0
 Counts p = p .count ≤ 2147483647

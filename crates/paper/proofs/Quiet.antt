@@ -1,19 +1,19 @@
 -- Handing out throws nothing away, and emptying leaves nothing to throw away.
 use Prim.Native.Nat.{ℕ, zero, suc, _≤_, _<_, zero-le}
-use mathlib.Core.Path.{_≡_, refl, sym, ap, _∙_, subst}
-use mathlib.Core.Logic.{_⊎_, inl, inr, ⊎-elim}
-use mathlib.Core.List.{List, [], _∷_, _++_, map}
+use mathlib.Core.Path.{_≡_, refl, sym, ap, _∙_}
+use mathlib.Core.Logic.{inl, inr, ⊎-elim}
+use mathlib.Core.List.{List, [], _∷_, map}
 use mathlib.Core.Bool.{Bool, true, false, cond, not, _&&_, _||_}
 use native.Mathlib.Omega.{arith}
 use lib.Dec.{eqb}
 use lib.ListN.{length}
 use Rattle.paper.specs.declared.Picture.{Picture}
 use Rattle.paper.specs.declared.Found.{Found}
-use Rattle.paper.specs.Words.{keep, allB, anyB}
+use Rattle.paper.specs.Words.{keep}
 use Rattle.paper.specs.State.{isMarked}
-use Rattle.paper.specs.Output.{Tail, joined, quiet, Moved, still, andThen, turns, below, lowest, leave, stay, handFound, handOut, cleared, emptied, removed, handWhile}
+use Rattle.paper.specs.Output.{Moved, still, turns, below, lowest, handFound, handOut, cleared, emptied, handWhile}
 use Rattle.paper.specs.declared.Found.the-variants.{Nothing, The}
-use Rattle.paper.proofs.Bools.{both, left, right, split, not-both, by-case}
+use Rattle.paper.proofs.Bools.{split, by-case}
 use Rattle.paper.proofs.Every.{Mem}
 use Rattle.paper.proofs.Moves.{others, lowest-of, same-eqb}
 

@@ -3,26 +3,26 @@ use Rattle.paper.specs.declared.Serial.{Serial}
 use Rattle.paper.specs.declared.Surface.{Surface}
 use Rattle.paper.specs.declared.Shown.{Shown}
 use Rattle.paper.specs.Words.{flat}
-use Rattle.paper.specs.Numbers.{u8, u16, u32, i32, bytes16, bytes32, signed32, bit, flagAt, serialNos, surfaceNos, aSerial, aSurface}
+use Rattle.paper.specs.Numbers.{u8, u32, i32, bytes32, bit, flagAt, serialNos, surfaceNos, aSerial, aSurface}
 use Rattle.paper.specs.Kinds.{beginKind, listsKind, replyOffset, replyTo, shownWidth}
 use Rattle.paper.specs.Poc.{in32}
 use Rattle.paper.specs.Sets.{Sets, inOrder}
 use Rattle.paper.specs.Output.{Tail}
-use Rattle.paper.specs.Replies.{Begun, Reply, shownBytes, words, tailBytes, flagsByte, begunBytes, framed, bytesOf}
+use Rattle.paper.specs.Replies.{Begun, Reply, shownBytes, words, tailBytes, begunBytes, bytesOf}
 use Rattle.paper.specs.Ledger.{readWords, readSerials, readShown, readReleased, readTail, readSets, readBegun, setWords, readReply}
-use Prim.Native.Nat.{ℕ, zero, suc, _+_, _-_, _*_, _/_, _%_, _≤_, _<_, _^_}
-use mathlib.Core.Path.{_≡_, refl, sym, ap, _∙_, subst}
+use Prim.Native.Nat.{ℕ, suc, _+_, _-_, _*_, _/_, _%_, _<_}
+use mathlib.Core.Path.{_≡_, refl, sym, ap, _∙_}
 use mathlib.Core.List.{List, [], _∷_, _++_, map, append-nil, append-assoc, map-append}
-use mathlib.Core.Bool.{Bool, true, false, cond, not, _&&_, _||_}
+use mathlib.Core.Bool.{Bool, true, false}
 use native.Mathlib.Omega.{arith}
 use native.Mathlib.Nat.{div-div-eq-div-mul}
-use lib.Dec.{eqb, ltb}
-use lib.ListN.{length, length-map, getD, drop, length-append}
+use lib.Dec.{eqb}
+use lib.ListN.{length, length-map, drop, length-append}
 use lib.IntN.{ℤ}
 use mir.Val.{toZ, ofZ, SFits}
 use mir.Syntax.{w32}
 use mir.Facts.{toZ-ofZ, fits-ofZ}
-use borrow.Author.Tests.{eqb-true, eqb-false, eq-eqb, ne-eqb, ltb-true}
+use borrow.Author.Tests.{ne-eqb, ltb-true}
 use Rattle.paper.proofs.Every.{All, all-first, all-last}
 
 abbrev pub Word : ℕ → Type 0

@@ -5,26 +5,24 @@ use Rattle.paper.specs.declared.Picture.{Picture}
 use Rattle.paper.specs.declared.Shown.{Shown}
 use Rattle.paper.specs.declared.Found.{Found}
 use Rattle.paper.specs.declared.Limits.{Limits}
-use Rattle.paper.specs.declared.Current.{Current}
 use Rattle.paper.specs.Words.{keep, flat}
 use Rattle.paper.specs.Numbers.{bytes32, serialNos, surfaceNos}
 use Rattle.paper.specs.Kinds.{shownWidth}
 use Rattle.paper.specs.Records.{Fields}
 use Rattle.paper.specs.State.{Session, isMarked}
-use Rattle.paper.specs.Output.{Tail, joined, quiet, Moved, still, andThen, turns, lowest, leave, stay, done, handFound, handOut, cleared, emptied, inUse, removed, handWhile, due, dueLate, beforeDecoding}
+use Rattle.paper.specs.Output.{Tail, Moved, still, andThen, turns, lowest, leave, stay, done, handFound, handOut, cleared, emptied, inUse, removed, handWhile, due, beforeDecoding}
 use Rattle.paper.specs.Begin.{markedStore, startsOver, noPrior, roomMade}
-use Rattle.paper.specs.Calls.{raised, stored, finished}
-use Rattle.paper.specs.Replies.{Reply, shownBytes, words, tailBytes, bytesOf}
+use Rattle.paper.specs.Replies.{shownBytes, words, tailBytes}
 use Prim.Native.Nat.{ℕ, zero, suc, _+_, _*_, _≤_, _<_, zero-le}
-use mathlib.Core.Path.{_≡_, refl, sym, ap, _∙_, subst}
-use mathlib.Core.Logic.{_⊎_, inl, inr, ⊎-elim}
+use mathlib.Core.Path.{_≡_, refl, _∙_}
+use mathlib.Core.Logic.{inl, inr, ⊎-elim}
 use mathlib.Core.List.{List, [], _∷_, _++_, map}
 use mathlib.Core.Bool.{Bool, true, false, cond, not, _&&_, _||_}
 use native.Mathlib.Omega.{arith}
 use lib.Dec.{eqb}
 use lib.ListN.{length, length-append, length-map}
 use Rattle.paper.specs.declared.Found.the-variants.{Nothing, The}
-use Rattle.paper.proofs.Bools.{split, by-case, not-both}
+use Rattle.paper.proofs.Bools.{split, by-case}
 use Rattle.paper.proofs.Every.{Mem}
 use Rattle.paper.proofs.Moves.{others, lowest-of, same-eqb}
 use Rattle.paper.proofs.Quiet.{waitings, fewer, one-fewer, few-wait}

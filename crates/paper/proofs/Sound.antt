@@ -1,47 +1,43 @@
 -- One record: what the reply tells is what the session does.
-use Prim.Native.Nat.{ℕ, zero, suc, _+_, _-_, _%_, _≤_, _<_}
-use mathlib.Core.Path.{_≡_, refl, sym, ap, _∙_, subst}
+use Prim.Native.Nat.{ℕ, _+_, _-_, _%_, _≤_, _<_}
+use mathlib.Core.Path.{_≡_, refl, sym, ap, _∙_}
 use mathlib.Core.Logic.{_⊎_, inl, inr, ⊎-elim}
 use mathlib.Core.List.{List, [], _∷_, _++_, map, append-nil, map-append, map-map}
-use mathlib.Core.Bool.{Bool, true, false, cond, not, _&&_, _||_}
+use mathlib.Core.Bool.{Bool, true, false, not, _&&_, _||_}
 use native.Mathlib.Omega.{arith}
 use lib.Dec.{eqb, ltb}
-use lib.ListN.{length, getD, set}
-use borrow.Author.Tests.{eqb-true, eqb-false, eq-eqb, ne-eqb}
+use lib.ListN.{length, getD}
+use borrow.Author.Tests.{eqb-false, ne-eqb}
 use Rattle.paper.specs.declared.Serial.{Serial}
 use Rattle.paper.specs.declared.Surface.{Surface}
 use Rattle.paper.specs.declared.Picture.{Picture}
-use Rattle.paper.specs.declared.Limits.{Limits}
-use Rattle.paper.specs.declared.Prev.{Prev}
 use Rattle.paper.specs.declared.Current.{Current}
 use Rattle.paper.specs.declared.Now.{Now}
-use Rattle.paper.specs.Words.{keep, allB, anyB, table, Test, _gives_, first}
-use Rattle.paper.specs.Numbers.{u32, missing, aSerial, sameSerial}
+use Rattle.paper.specs.Words.{keep, allB, anyB}
+use Rattle.paper.specs.Numbers.{missing, sameSerial}
 use Rattle.paper.specs.Kinds.{configureKind, finishKind, drainKind, discardKind, endKind, abandonKind, replyTo, malformedReply}
-use Rattle.paper.specs.Records.{Fields, ListAsk, Slice, limitsOf, fieldsOf, sliceOf, wellFormed, kindOf}
-use Rattle.paper.specs.State.{Session, Refs, noRefs, allRefs, isCurrent, modulus, onNow}
-use Rattle.paper.specs.Ranges.{beginRanges, configureRanges}
+use Rattle.paper.specs.Records.{Fields, ListAsk, Slice, limitsOf, fieldsOf, sliceOf}
+use Rattle.paper.specs.State.{Session, noRefs, allRefs, isCurrent, onNow}
 use Rattle.paper.specs.Poc.{in32}
-use Rattle.paper.specs.Sets.{Sets, marked, inOrder, refsOf, wishesIn32}
-use Rattle.paper.specs.Output.{Tail, quiet, joined, Moved, still, andThen, done as quietly, cleared, emptied, handWhile, dueLate, due, inUse, removed, beforeDecoding}
+use Rattle.paper.specs.Sets.{Sets, inOrder, refsOf, wishesIn32}
+use Rattle.paper.specs.Output.{quiet, joined, Moved, still, andThen, cleared, emptied, handWhile, due, inUse, removed, beforeDecoding}
 use Rattle.paper.specs.Begin.{sets, markedStore, begunCurrent, noPrior, startsOver, within, poc, roomMade, begunSession}
 use Rattle.paper.specs.RefLists.{ownOf, candidates0, candidates1, placed, lastIsOwn, list0, list1}
 use Rattle.paper.specs.Calls.{raised, stored, finished, drained, drainedNow, dropped, discarded, finishedSession, drainedSession, configuredSession, discardedSession, abandonedSession, endedSession}
-use Rattle.paper.specs.Replies.{Reply, Begun}
+use Rattle.paper.specs.Replies.{Reply}
 use Rattle.paper.specs.Step.{Decided, refused, accepted, begunOf, heldBy, decideOf}
 use Rattle.paper.specs.declared.Line.{Line}
-use Rattle.paper.specs.Ledger.{Ledger, Event, mayAll, uponAll, events, none, names, clearing, lies, landed, abandoned, unchanged, lineOf, tell}
+use Rattle.paper.specs.Ledger.{Ledger, uponAll, events, none, names, clearing, lies, landed, tell}
 use Rattle.paper.specs.Statement.{line, currentLine, ledgerOf}
-use Rattle.paper.specs.declared.Prev.the-variants as Prev
 use Rattle.paper.specs.declared.Now.the-variants as Now
 use Rattle.paper.specs.Begin as W
 use Rattle.paper.proofs.Bools as B
-use Rattle.paper.proofs.Bools.{both, left, right, split, not-both, or-left, or-right, by-case}
-use Rattle.paper.proofs.Events.{Runs, runs-append, runs-join}
+use Rattle.paper.proofs.Bools.{both, split, not-both, or-left, or-right, by-case}
+use Rattle.paper.proofs.Events.{Runs, runs-join}
 use Rattle.paper.proofs.Every.{All, Mem, all-append, all-first, all-getD, all-last, all-map, all-more, all-of, all-set, all-table, all-true, all-zip, none-any}
-use Rattle.paper.proofs.Apart.{Other, Distinct, Same, distinct-map, distinct-snoc, flip}
-use Rattle.paper.proofs.Moves.{Tells, tells-then, tells-while, tells-cleared, tells-removed, tells-emptied, tells-still, clears, drop-one, drop-first, others, one, same-eqb}
-use Rattle.paper.proofs.ReadBack.{Fit, FitTail, FitBegun, Word}
+use Rattle.paper.proofs.Apart.{Other, Distinct, distinct-map, distinct-snoc, flip}
+use Rattle.paper.proofs.Moves.{Tells, tells-then, tells-while, tells-cleared, tells-removed, tells-emptied, tells-still, clears, drop-one, drop-first, others, same-eqb}
+use Rattle.paper.proofs.ReadBack.{Fit}
 use Rattle.paper.proofs.Bounds.{FitLine, fit-tail, fit-names, word-small}
 use Rattle.paper.proofs.Quiet.{while-throws, emptied-throws, emptied-leaves}
 use Rattle.paper.proofs.Members.{begin-names}
@@ -98,10 +94,6 @@ ok-kept m x y p q = rw (p, q, mathlib.Core.Bool.or-true y)
 
 ok-gone : (m x y z : Bool) → m ≡ true → y ≡ true → (m && ((x || true) && ((y || false) && (z || true)))) ≡ true
 ok-gone m x y z p q = rw (p, q, mathlib.Core.Bool.or-true x, mathlib.Core.Bool.or-true z)
-
-pub idle-now : (x : Now) → isCurrent x ≡ false → x ≡ Now.Idle
-idle-now Now.Idle e = refl
-idle-now (Now.Is c) e = not-both true refl e
 
 surface-word : (r : List ℕ) → allB (λ (b : ℕ). ltb b 256) r ≡ true → fieldsOf r .surface .0 < 4294967296
 unfolding fieldsOf

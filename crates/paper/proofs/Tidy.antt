@@ -1,19 +1,19 @@
 -- A ledger that is in order is tidy: its lines differ in serial and in surface, and their serials were all given.
-use Prim.Native.Nat.{ℕ, zero, suc, _+_, _≤_, _<_}
-use mathlib.Core.Path.{_≡_, refl, sym, ap, _∙_, subst}
-use mathlib.Core.List.{List, [], _∷_, _++_, map, append-nil}
-use mathlib.Core.Bool.{Bool, true, false, cond, not, _&&_, _||_}
+use Prim.Native.Nat.{ℕ, _+_, _<_}
+use mathlib.Core.Path.{_≡_, refl, sym, subst}
+use mathlib.Core.List.{List, [], _∷_, _++_, append-nil}
+use mathlib.Core.Bool.{Bool, true, false, not}
 use native.Mathlib.Omega.{arith}
 use lib.Dec.{eqb}
 use borrow.Author.Tests.{eqb-true, ne-eqb}
 use Rattle.paper.specs.declared.Line.{Line}
-use Rattle.paper.specs.Words.{keep, anyB}
+use Rattle.paper.specs.Words.{anyB}
 use Rattle.paper.specs.Numbers.{u32}
 use Rattle.paper.specs.Kinds.{endKind, abandonKind, surfacePlace}
 use Rattle.paper.specs.Output.{Tail}
 use Rattle.paper.specs.Replies.{Begun, Reply}
-use Rattle.paper.specs.Ledger.{linesOf, Ledger, Event, Hand, Throw, Free, Exchange, blank, lies, off, free, upon, mayAll, uponAll, events, none, landed, abandoned, unchanged, lineOf, tell, heard, hear, told, readReply}
-use Rattle.paper.proofs.Bools.{left, right, split, not-both, by-case}
+use Rattle.paper.specs.Ledger.{linesOf, Ledger, Event, Hand, Throw, Free, Exchange, blank, lies, off, free, upon, uponAll, events, none, landed, abandoned, lineOf, tell, heard, hear, told, readReply}
+use Rattle.paper.proofs.Bools.{left, right, not-both, by-case}
 use Rattle.paper.proofs.Every.{All, all-keep, all-map, all-more, all-first, all-append, all-both, none-any}
 use Rattle.paper.proofs.Apart.{flip}
 use Rattle.paper.proofs.Flow.{Off2, Sep, sep-upon, sep-first}

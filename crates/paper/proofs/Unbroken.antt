@@ -1,35 +1,32 @@
 -- A session's own replies break nothing: each gets part 0.
-use Prim.Native.Nat.{ℕ, zero, suc, _+_, _≤_, _<_}
-use mathlib.Core.Path.{_≡_, refl, sym, ap, _∙_, subst}
-use mathlib.Core.List.{List, [], _∷_, _++_, map}
-use mathlib.Core.Bool.{Bool, true, false, cond, not, _&&_, _||_}
+use Prim.Native.Nat.{ℕ, _+_, _≤_}
+use mathlib.Core.Path.{_≡_, refl, sym, ap}
+use mathlib.Core.List.{List, [], _∷_, _++_}
+use mathlib.Core.Bool.{Bool, true, false, not, _&&_, _||_}
 use native.Mathlib.Omega.{arith}
-use lib.Dec.{ltb, leb, eqb}
+use lib.Dec.{ltb, eqb}
 use lib.ListN.{length, length-map}
-use borrow.Author.Tests.{eq-eqb, ne-eqb, le-ltb, le-leb}
+use borrow.Author.Tests.{le-ltb, le-leb}
 use Rattle.paper.specs.declared.Serial.{Serial}
 use Rattle.paper.specs.declared.Line.{Line}
-use Rattle.paper.specs.Words.{Test, _gives_, first, allB, anyB}
+use Rattle.paper.specs.Words.{first, allB, anyB}
 use Rattle.paper.specs.Numbers.{u32}
 use Rattle.paper.specs.Kinds.{configureKind, finishKind, discardKind, endKind, abandonKind, replyTo, surfacePlace}
-use Rattle.paper.specs.Records.{kindOf}
 use Rattle.paper.specs.State.{Session, fresh}
-use Rattle.paper.specs.Sets.{inOrder}
 use Rattle.paper.specs.Output.{Tail}
 use Rattle.paper.specs.Replies.{Begun, Reply, bytesOf}
 use Rattle.paper.specs.Step.{Decided, decideOf, stepOf, replies}
-use Rattle.paper.specs.WholeReply.{wholeReply}
-use Rattle.paper.specs.Ledger.{Ledger, Event, Hand, Throw, Free, waitsAs, waits, lies, quietAt, may, mayAll, upon, uponAll, events, none, names, clearing, landed, abandoned, unchanged, tell, heard, hear, blank, readReply}
+use Rattle.paper.specs.Ledger.{Ledger, Event, Hand, Throw, Free, waitsAs, waits, lies, may, mayAll, upon, uponAll, events, none, clearing, landed, abandoned, unchanged, tell, hear, blank, readReply}
 use Rattle.paper.specs.Statement.{line, ledgerOf, Bytes}
-use Rattle.paper.specs.Watch.{eventPart, tailPart, _told, startedPart, listedPart, endPart, abandonPart, landedPart, replyPart, partOf, watched}
+use Rattle.paper.specs.Watch.{eventPart, tailPart, startedPart, listedPart, endPart, abandonPart, landedPart, replyPart, partOf, watched}
 use Rattle.paper.proofs.Bools as B
-use Rattle.paper.proofs.Bools.{both, left, right, split, or-left, or-right}
+use Rattle.paper.proofs.Bools.{both, left, right, split, or-left}
 use Rattle.paper.proofs.Ways.{by-ways}
-use Rattle.paper.proofs.ReadBack.{Fit, read-back}
+use Rattle.paper.proofs.ReadBack.{read-back}
 use Rattle.paper.proofs.WholeBack.{Known, whole-back}
 use Rattle.paper.proofs.Sound.{Sound, good-step}
 use Rattle.paper.proofs.Heard.{hears}
-use Rattle.paper.proofs.Fits.{Fits, fit-decide}
+use Rattle.paper.proofs.Fits.{fit-decide}
 use Rattle.paper.proofs.Tidy.{no-of}
 use Rattle.paper.proofs.LedgerTold.{sound-fresh, sound-step}
 

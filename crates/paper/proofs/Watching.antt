@@ -1,26 +1,25 @@
 -- What the ledger that says what is wrong is worth: part 0 all the way is demand 3, whoever wrote the replies.
-use Prim.Native.Nat.{ℕ, zero, suc, _+_, _≤_, _<_}
-use mathlib.Core.Path.{_≡_, refl, sym, ap, _∙_, subst}
+use Prim.Native.Nat.{ℕ, suc, _+_}
+use mathlib.Core.Path.{_≡_, refl, sym, ap}
 use mathlib.Core.List.{List, [], _∷_, _++_}
-use mathlib.Core.Bool.{Bool, true, false, cond, not, _&&_, _||_}
+use mathlib.Core.Bool.{Bool, true, false, not, _&&_, _||_}
 use native.Mathlib.Omega.{arith}
-use lib.Dec.{ltb, eqb}
+use lib.Dec.{eqb}
 use lib.ListN.{length}
-use borrow.Author.Tests.{eqb-true, eqb-false, eq-eqb, le-ltb}
+use borrow.Author.Tests.{eqb-true, eqb-false}
 use Rattle.paper.specs.declared.Serial.{Serial}
 use Rattle.paper.specs.declared.Line.{Line}
-use Rattle.paper.specs.Words.{Test, _gives_, first, allB, anyB}
+use Rattle.paper.specs.Words.{Test, first, allB, anyB}
 use Rattle.paper.specs.Numbers.{u32}
 use Rattle.paper.specs.Kinds.{finishKind, discardKind, endKind, abandonKind, surfacePlace}
 use Rattle.paper.specs.Sets.{inOrder}
 use Rattle.paper.specs.Output.{Tail}
 use Rattle.paper.specs.Replies.{Begun, Reply}
 use Rattle.paper.specs.WholeReply.{wholeReply}
-use Rattle.paper.specs.Ledger.{Ledger, Event, Hand, Throw, Free, Exchange, waitsAs, waits, lies, quietAt, may, mayAll, upon, uponAll, events, none, names, clearing, landed, abandoned, unchanged, tell, heard, hear, told, blank, readReply}
+use Rattle.paper.specs.Ledger.{Ledger, Event, Hand, Throw, Free, waitsAs, waits, lies, quietAt, may, mayAll, upon, uponAll, events, none, names, clearing, landed, abandoned, unchanged, tell, heard, hear, told, blank, readReply}
 use Rattle.paper.specs.Statement.{Kept}
 use Rattle.paper.specs.Watch.{eventPart, tailPart, _told, startedPart, listedPart, endPart, abandonPart, landedPart, replyPart, partOf, Verdict, watched, pairs}
-use Rattle.paper.proofs.Bools as B
-use Rattle.paper.proofs.Bools.{both, left, right, split, by-case}
+use Rattle.paper.proofs.Bools.{both, split}
 use Rattle.paper.proofs.Ways.{first-none, yes-of}
 use Rattle.paper.proofs.Between.{in-order-kept}
 

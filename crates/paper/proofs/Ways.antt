@@ -1,14 +1,13 @@
 -- The ways out of a decision: what holds of each holds of what is decided. Every theorem over the eight kinds is one record of these fields.
-use Prim.Native.Nat.{ℕ, zero, suc, _+_, _≤_, _<_}
-use mathlib.Core.Path.{_≡_, refl, sym, ap, _∙_}
+use Prim.Native.Nat.{ℕ, _+_, _≤_, _<_}
+use mathlib.Core.Path.{_≡_, refl, sym}
 use mathlib.Core.List.{List, [], _∷_}
-use mathlib.Core.Bool.{Bool, true, false, cond, not, _&&_}
+use mathlib.Core.Bool.{Bool, true, false, not, _&&_}
 use native.Mathlib.Omega.{arith}
 use lib.Dec.{eqb, leb}
 use lib.ListN.{length}
 use borrow.Author.Tests.{eqb-true, eqb-false, leb-true}
 use Rattle.paper.specs.declared.Current.{Current}
-use Rattle.paper.specs.declared.Limits.{Limits}
 use Rattle.paper.specs.declared.Now.{Now}
 use Rattle.paper.specs.declared.Now.the-variants as Now
 use Rattle.paper.specs.Words.{Test, _gives_, first, anyB}
@@ -16,7 +15,7 @@ use Rattle.paper.specs.Numbers.{missing}
 use Rattle.paper.specs.Kinds.{configureKind, beginKind, listsKind, finishKind, drainKind, discardKind, endKind, abandonKind, replyTo, malformedReply}
 use Rattle.paper.specs.Records.{Fields, Slice, kindOf, lengthOf, limitsOf, fieldsOf, sliceOf, bodyOk, wellFormed}
 use Rattle.paper.specs.State.{Session, isCurrent, onNow, modulus}
-use Rattle.paper.specs.Ranges.{configureRanges, beginRanges, listsRanges}
+use Rattle.paper.specs.Ranges.{configureRanges, beginRanges}
 use Rattle.paper.specs.Output.{quiet}
 use Rattle.paper.specs.Begin.{within, roomMade, begunSession}
 use Rattle.paper.specs.Begin as W

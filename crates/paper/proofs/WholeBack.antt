@@ -1,24 +1,23 @@
 -- The bytes of a reply are a whole reply: the places of its counts are where the reader of its length looks.
-use Prim.Native.Nat.{ℕ, zero, suc, _+_, _-_, _*_, _/_, _%_, _≤_, _<_}
-use mathlib.Core.Path.{_≡_, refl, sym, ap, _∙_, subst}
-use mathlib.Core.List.{List, [], _∷_, _++_, map, append-nil, append-assoc}
-use mathlib.Core.Bool.{Bool, true, false, cond, not, _&&_, _||_}
+use Prim.Native.Nat.{ℕ, _+_, _*_, _≤_, _<_}
+use mathlib.Core.Path.{_≡_, refl, sym, ap, _∙_}
+use mathlib.Core.List.{List, [], _∷_, _++_, append-assoc}
+use mathlib.Core.Bool.{Bool, true, not, _&&_, _||_}
 use native.Mathlib.Omega.{arith}
-use lib.Dec.{ltb, leb, eqb}
+use lib.Dec.{leb, eqb}
 use lib.ListN.{length, length-append, length-map}
 use lib.Seq.{getD-append-add}
 use borrow.Author.Tests.{eq-eqb, ne-eqb, le-leb}
 use Rattle.paper.specs.declared.Serial.{Serial}
 use Rattle.paper.specs.declared.Surface.{Surface}
-use Rattle.paper.specs.declared.Shown.{Shown}
 use Rattle.paper.specs.Words.{flat}
 use Rattle.paper.specs.Numbers.{u8, u16, bytes16, bytes32, serialNos, surfaceNos}
 use Rattle.paper.specs.Kinds.{configureKind, beginKind, listsKind, abandonKind, replyTo, malformedReply, wordWidth, shownWidth, membersPlace}
-use Rattle.paper.specs.Sets.{Sets, inOrder}
+use Rattle.paper.specs.Sets.{inOrder}
 use Rattle.paper.specs.Output.{Tail}
 use Rattle.paper.specs.Replies.{Begun, Reply, shownBytes, words, tailBytes, begunBytes, framed, bytesOf}
 use Rattle.paper.specs.WholeReply.{thrownAt, releasedAt, tailEnd, membersOf, replyEnd, replyKind, wholeReply}
-use Rattle.paper.proofs.Bools.{both, or-left, or-right}
+use Rattle.paper.proofs.Bools.{both, or-left}
 use Rattle.paper.proofs.Sizes.{words-length, shown-length}
 use Rattle.paper.proofs.ReadBack.{Fit, two-back, length-order}
 

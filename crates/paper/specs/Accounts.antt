@@ -1,14 +1,14 @@
 -- Demand 3 in plain accounts: what was begun, handed out, thrown away and released, counted over all exchanges.
-use Prim.Native.Nat.{ℕ, zero, suc, _+_, _≤_}
+use Prim.Native.Nat.{ℕ, _+_, _≤_}
 use mathlib.Core.Path.{_≡_}
 use mathlib.Core.List.{List, [], _∷_, _++_, map}
-use mathlib.Core.Bool.{Bool, true, false, cond}
+use mathlib.Core.Bool.{cond}
 use lib.Dec.{eqb}
 use Rattle.paper.specs.Words.{keep}
-use Rattle.paper.specs.Numbers.{u32, serialNos, surfaceNos}
+use Rattle.paper.specs.Numbers.{serialNos, surfaceNos}
 use Rattle.paper.specs.Output.{Tail}
 use Rattle.paper.specs.declared.Shown.{Shown}
-use Rattle.paper.specs.Replies.{Begun, Reply}
+use Rattle.paper.specs.Replies.{Reply}
 use Rattle.paper.specs.declared.Line.{Line}
 use Rattle.paper.specs.Ledger.{Ledger, Exchange, readReply, lineOf}
 

@@ -1,5 +1,5 @@
 -- After begin: finish (C.5.2.3), drain, configure, discard, abandon, end of sequence.
-use Prim.Native.Nat.{ℕ, _+_}
+use Prim.Native.Nat.{_+_}
 use mathlib.Core.List.{List, [], _∷_, _++_, map}
 use mathlib.Core.Bool.{Bool, true, false, cond}
 use lib.ListN.{length}

@@ -4,7 +4,6 @@ use mathlib.Core.List.{List, [], _∷_, _++_, map}
 use mathlib.Core.Bool.{Bool, true, false, cond, not, _&&_, _||_}
 use lib.ListN.{drop}
 use lib.Dec.{eqb}
-use lib.IntN.{ℤ}
 use Rattle.paper.specs.declared.Serial.{Serial}
 use Rattle.paper.specs.declared.Surface.{Surface}
 use Rattle.paper.specs.declared.Shown.{Shown}

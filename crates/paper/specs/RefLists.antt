@@ -1,7 +1,7 @@
 -- Lists (8.3.4).
 use Prim.Native.Nat.{ℕ, _-_, _%_, max}
 use mathlib.Core.List.{List, [], _∷_, _++_, map}
-use mathlib.Core.Bool.{Bool, true, false, cond, not, _&&_}
+use mathlib.Core.Bool.{Bool, cond, not, _&&_}
 use lib.ListN.{length, getD, set}
 use lib.Dec.{ltb, leb, eqb}
 use Rattle.paper.specs.declared.Serial.{Serial}

@@ -1,13 +1,13 @@
 -- The numbers a session says no with, their order, and one call.
-use Prim.Native.Nat.{ℕ, _+_}
+use Prim.Native.Nat.{ℕ}
 use mathlib.Core.List.{List, [], _∷_}
-use mathlib.Core.Bool.{Bool, true, false, cond, not, _&&_}
+use mathlib.Core.Bool.{Bool, cond, not, _&&_}
 use lib.Dec.{ltb, eqb}
 use Rattle.paper.specs.declared.Surface.{Surface}
 use Rattle.paper.specs.declared.Picture.{Picture}
 use Rattle.paper.specs.declared.Limits.{Limits}
 use Rattle.paper.specs.declared.Current.{Current}
-use Rattle.paper.specs.Words.{Test, _gives_, first, anyB}
+use Rattle.paper.specs.Words.{_gives_, first, anyB}
 use Rattle.paper.specs.Numbers.{aSerial, missing, sameSurface, replyLimit}
 use Rattle.paper.specs.Kinds.{configureKind, beginKind, listsKind, finishKind, drainKind, discardKind, endKind, abandonKind, replyTo, malformedReply}
 use Rattle.paper.specs.State.{Session, isCurrent, onNow, modulus}

@@ -1,7 +1,7 @@
 -- A ledger that says what is wrong: the first part of demand 3 that an exchange breaks, by number.
-use Prim.Native.Nat.{ℕ, zero, suc, _+_}
+use Prim.Native.Nat.{ℕ, _+_}
 use mathlib.Core.List.{List, [], _∷_, _++_}
-use mathlib.Core.Bool.{Bool, true, false, cond, not, _&&_}
+use mathlib.Core.Bool.{cond, not, _&&_}
 use lib.ListN.{length}
 use lib.Dec.{ltb, eqb}
 use Rattle.paper.specs.declared.Serial.{Serial}

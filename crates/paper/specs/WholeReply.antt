@@ -2,8 +2,8 @@
 use Prim.Native.Nat.{ℕ, _+_, _*_}
 use mathlib.Core.List.{List}
 use mathlib.Core.Bool.{Bool, cond, not, _&&_, _||_}
-use lib.ListN.{length, drop}
-use lib.Dec.{ltb, leb, eqb}
+use lib.ListN.{length}
+use lib.Dec.{leb, eqb}
 use Rattle.paper.specs.Numbers.{u8, u16}
 use Rattle.paper.specs.Records.{lengthOf, kindOf}
 use Rattle.paper.specs.Kinds.{configureKind, beginKind, listsKind, abandonKind, replyTo, malformedReply, bodyPlace, numberPlace, restPlace, countsPlace, membersPlace, fiveCounts, listsPlace, wordWidth, shownWidth}

@@ -1,8 +1,7 @@
 -- Words on lists that document 01 uses without saying so.
 use Prim.Native.Nat.{ℕ, zero, suc}
-use mathlib.Core.List.{List, [], _∷_, _++_, map}
+use mathlib.Core.List.{List, [], _∷_, _++_}
 use mathlib.Core.Bool.{Bool, true, false, cond, _&&_, _||_}
-use lib.Dec.{eqb}
 
 -- those of which f holds, in order
 unfoldable pub keep : {A : Type 0} → (A → Bool) → List A → List A

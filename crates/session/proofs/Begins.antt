@@ -48,11 +48,11 @@ use Rattle.session.specs.declared.Answer.{Answer}
 use Rattle.store.specs.declared.Sizes.{Sizes}
 use Rattle.store.specs.declared.Derived.{Derived}
 use Rattle.store.specs.declared.Moved as Store
-use Rattle.session.specs.declared.records.Head.{Head}
+use Rattle.format.specs.declared.records.Head.{Head}
 use Rattle.session.specs.declared.begin.Flags.{Flags}
 use Rattle.session.specs.declared.begin.Start.{Start}
 use Rattle.session.specs.declared.replies.Told.{Told}
-use Rattle.store.specs.Shelf.{word, stored}
+use Rattle.store.specs.Shelf.{word, flagOf, stored}
 use Rattle.store.specs.Places.{front, storedIn}
 use Rattle.store.specs.Tails.{tailIn}
 use Rattle.store.specs.Bumps.{Leaves}
@@ -60,9 +60,10 @@ use Rattle.store.specs.Runs.{wishesIn, wishesWithin, HoldsSets, Derives}
 use Rattle.session.specs.HeadPlaces.{ENDED, NEXT}
 use Rattle.session.specs.Laid.{sizesOf, frontOf, headWords}
 use Rattle.session.specs.Laid as Laid
-use Rattle.session.specs.View.{Memory, memory, sessionIn, sessionOf, Front, frontIn, limitsAt, flagOf, begunFront}
+use Rattle.session.specs.View.{Memory, memory, sessionIn, sessionOf, Front, frontIn, limitsAt, begunFront}
 use Rattle.session.specs.Said.{Says, Answers, Does}
-use Rattle.session.specs.Parts.{headOf, HoldsWishes}
+use Rattle.format.specs.Reads.{headOf}
+use Rattle.session.specs.Parts.{HoldsWishes}
 use Rattle.session.specs.Written.{FewMembers, numbersFrom, memberBytes, begunPart, toldBytes}
 use Rattle.session.specs.Starts.{flagsFrom, prevFrom, currentFrom, toldFrom, refsFrom, Passed, Placed, Wished, Tells}
 use Rattle.store.proofs.Shelf.{table-same, table-map, table-join}

@@ -19,15 +19,10 @@ use Rattle.paper.proofs.Bools.{left, right, split}
 use Rattle.paper.proofs.Fits.{table-length}
 use Rattle.derivation.specs.Heads.{headRanges}
 use Rattle.derivation.proofs.Splitting.{ranges-split}
-use Rattle.session.specs.declared.records.Head.{Head}
-use Rattle.session.specs.Parts.{headOf}
+use Rattle.format.specs.declared.records.Head.{Head}
+use Rattle.format.specs.Reads.{headOf}
 
 -- ---- tests of a run of entries
--- a number where a flag is set, else 0
-pub at-most : (b : Bool) (n : ℕ) → cond b n 0 ≤ n
-at-most true n = omega arith
-at-most false n = omega arith
-
 -- a test of the first n entries that asks one thing more for each entry
 module _ (h q : ℕ → Bool) (more : (i : ℕ) → h (suc i) ≡ (h i && q i)) where
   pub goes-on : (i : ℕ) → h i ≡ true → q i ≡ true → h (i + 1) ≡ true

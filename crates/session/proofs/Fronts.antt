@@ -18,9 +18,9 @@ use Rattle.paper.specs.declared.Current.{Current}
 use Rattle.paper.specs.declared.Prev.the-variants as Prev
 use Rattle.paper.specs.declared.Now.the-variants as Now
 use Rattle.derivation.specs.declared.ref_lists.Refs.{Refs}
-use Rattle.store.specs.Shelf.{word}
+use Rattle.store.specs.Shelf.{word, flagOf, flagWord}
 use Rattle.session.specs.HeadPlaces.{CONFIGURED, FIRST, ENDED, K, PREV, CURRENT}
-use Rattle.session.specs.View.{flagOf, flagWord, currentAt, nowAt, Front, frontIn, idleFront, configuredFront, begunFront, endedFront}
+use Rattle.session.specs.View.{currentAt, nowAt, Front, frontIn, idleFront, configuredFront, begunFront, endedFront}
 use Rattle.session.specs.Laid.{headWords}
 use Rattle.store.proofs.Shelf.{flag-back}
 

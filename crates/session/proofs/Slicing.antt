@@ -31,14 +31,15 @@ use Rattle.derivation.proofs.Runs.{none-held}
 use Rattle.derivation.proofs.Instances.{list0-is, list1-is, built-is, candidates-0, candidates-1}
 use Rattle.session.specs.declared.Answer.{Answer}
 use Rattle.session.specs.declared.Refusal.{Refusal}
-use Rattle.session.specs.declared.lists.Ask.{Ask}
-use Rattle.session.specs.declared.lists.SliceHead.{SliceHead}
+use Rattle.format.specs.declared.records.Ask.{Ask}
+use Rattle.format.specs.declared.records.SliceHead.{SliceHead}
 use Rattle.session.specs.declared.lists.Verdict.{Verdict}
 use Rattle.session.specs.declared.lists.Verdict.the-variants.{Fine, No}
 use Rattle.session.specs.Numbered.{numberOf}
 use Rattle.session.specs.Said.{Says, Refuses, Answers, WellFormed}
 use Rattle.session.proofs.Bytes.{refusal-number}
-use Rattle.session.specs.Slices.{AsksAs, ReadsAs, numberIn, listsNumber}
+use Rattle.format.specs.Reads.{AsksAs, ReadsAs}
+use Rattle.session.specs.Slices.{numberIn, listsNumber}
 use Rattle.session.specs.Written.{listIn, Listable}
 
 -- ---- the entry bytes

@@ -20,7 +20,7 @@ use Rattle.paper.proofs.Bools.{left, right, split, by-case}
 use Rattle.paper.proofs.Rooms.{nothing-written}
 use Rattle.session.specs.declared.Answer.{Answer}
 use Rattle.session.specs.View.{Memory, sessionIn}
-use Rattle.session.specs.Parts.{kindIn}
+use Rattle.format.specs.Reads.{kindIn}
 use Rattle.session.specs.Said.{Answers, Does, WellFormed, Permitted}
 
 -- ---- the kind that was read

@@ -18,9 +18,10 @@ use Rattle.paper.proofs.Fits.{table-length}
 use Rattle.derivation.specs.declared.wishes.Wanted.{Wanted}
 use Rattle.derivation.specs.declared.wishes.Wanted.the-variants as W
 use Rattle.derivation.specs.Answers.{wantedOf}
-use Rattle.session.specs.declared.records.Head.{Head}
+use Rattle.format.specs.declared.records.Head.{Head}
 use Rattle.store.specs.Runs.{wishAt, wishesAt, wishesIn}
-use Rattle.session.specs.Parts.{headOf, shortsAt, longsAt, isWanted, Wants, WantsAll, HoldsWishes}
+use Rattle.format.specs.Reads.{headOf}
+use Rattle.session.specs.Parts.{shortsAt, longsAt, isWanted, Wants, WantsAll, HoldsWishes}
 use Rattle.session.proofs.Entries.{all-both, all-more}
 use Rattle.store.proofs.Shelf.{table-more, table-same, table-next, table-join}
 

@@ -13,8 +13,8 @@ use Rattle.paper.specs.declared.Prev.{Prev}
 use Rattle.paper.specs.declared.Prev.the-variants as Prev
 use Rattle.paper.specs.declared.Now.{Now}
 use Rattle.derivation.specs.declared.ref_lists.Refs.{Refs}
-use Rattle.store.specs.Shelf.{NormalForm}
-use Rattle.session.specs.View.{Memory, Front, flagWord, sessionIn}
+use Rattle.store.specs.Shelf.{flagWord, NormalForm}
+use Rattle.session.specs.View.{Memory, Front, sessionIn}
 
 abbrev pub limitsWords : Limits → List ℕ
 limitsWords l = l .k ∷ l .capacity ∷ l .buffering ∷ l .reorder ∷ l .latency ∷ []

@@ -1,38 +1,17 @@
--- The parts of a record as the code reads them.
-use Prim.Native.Nat.{ℕ, _+_, _*_, _<_, _≤_}
+-- The wishes of a begin as the code writes them.
+use Prim.Native.Nat.{ℕ, _<_}
 use mathlib.Core.Path.{_≡_}
 use mathlib.Core.List.{List, map}
-use mathlib.Core.Bool.{Bool, true, false, cond, _&&_}
-use lib.ListN.{length, getD}
+use mathlib.Core.Bool.{Bool, true, false}
+use lib.ListN.{length}
 use lib.IntN.{ℤ}
 use Rattle.paper.specs.declared.Wish.{Wish}
 use Rattle.paper.specs.Words.{allB, table}
-use Rattle.paper.specs.Numbers.{u8, u16, u32, aSurface}
-use Rattle.paper.specs.Kinds.{surfacePlace}
-use Rattle.paper.specs.Records.{kindOf, wellFormed, shortAt, longAt}
+use Rattle.paper.specs.Records.{shortAt, longAt}
 use Rattle.paper.specs.Sets.{Wishes, shortWish, longWish, wishIn32, wishesIn32}
 use Rattle.derivation.specs.declared.wishes.Wanted.{Wanted}
 use Rattle.derivation.specs.declared.wishes.Wanted.the-variants as W
 use Rattle.store.specs.Runs.{wishAt, wishesAt, wishesIn}
-use Rattle.session.specs.declared.records.Head.{Head}
-
--- the kind of a well-formed record, else 0
-unfoldable pub kindIn : List ℕ → ℕ
-kindIn r = cond (wellFormed r) (kindOf r) 0
-
--- the fields of a begin before its entries
-abbrev pub headOf : List ℕ → Head
-headOf r =
-    record {
-      nal = u8 r 4;
-      tid = u8 r 5;
-      flags = u8 r 6;
-      lsb = u16 r 7;
-      surface = aSurface (u32 r surfacePlace);
-      neg = u8 r 13;
-      pos = u8 r 14;
-      lt = u8 r 15;
-    }
 
 -- the wishes of n short-term entries from `at`, and of n long-term ones
 abbrev pub shortsAt : ℤ → List ℕ → ℕ → ℕ → List Wish

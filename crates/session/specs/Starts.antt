@@ -28,16 +28,16 @@ use Rattle.paper.specs.Output.{beforeDecoding}
 use Rattle.paper.specs.Replies.{framed, tailBytes}
 use Rattle.derivation.specs.declared.ref_lists.Refs.{Refs}
 use Rattle.store.specs.declared.Sizes.{Sizes}
-use Rattle.store.specs.Shelf.{word, stored, NormalForm}
+use Rattle.store.specs.Shelf.{word, flagOf, stored, NormalForm}
 use Rattle.store.specs.Runs.{wishesIn}
-use Rattle.session.specs.declared.records.Head.{Head}
+use Rattle.format.specs.declared.records.Head.{Head}
 use Rattle.session.specs.declared.Answer.{Answer}
 use Rattle.session.specs.declared.replies.Told.{Told}
 use Rattle.session.specs.declared.begin.Flags.{Flags}
 use Rattle.session.specs.declared.begin.Start.{Start}
 use Rattle.session.specs.HeadPlaces.{ENDED, NEXT}
-use Rattle.session.specs.Parts.{headOf}
-use Rattle.session.specs.View.{flagOf, limitsAt}
+use Rattle.format.specs.Reads.{headOf}
+use Rattle.session.specs.View.{limitsAt}
 use Rattle.session.specs.Said.{Says}
 use Rattle.session.specs.Written.{begunPart}
 

@@ -1,9 +1,8 @@
 -- The memory that a session lies in, and the paper's session that it is: every memory is some session. A flag is on unless its word is 0, a number with less than 32
 -- bits is the low bits of its word.
-use Prim.Native.Nat.{ℕ, _+_, _%_}
-use mathlib.Core.Bool.{Bool, true, false, cond, not}
+use Prim.Native.Nat.{ℕ, _%_}
+use mathlib.Core.Bool.{Bool, true, false, cond}
 use mathlib.Core.List.{List}
-use lib.Dec.{eqb}
 use mir.Syntax.{w32}
 use mir.Val.{toZ}
 use Rattle.paper.specs.Numbers.{aSerial, aSurface}
@@ -16,16 +15,9 @@ use Rattle.paper.specs.declared.Now.{Now}
 use Rattle.paper.specs.declared.Now.the-variants as Now
 use Rattle.derivation.specs.declared.ref_lists.Refs.{Refs}
 use Rattle.derivation.specs.Lists.{refsIn}
-use Rattle.store.specs.Shelf.{word, stored}
-use Rattle.store.specs.Shelf as Shelf
+use Rattle.store.specs.Shelf.{word, flagOf, stored}
 use Rattle.session.specs.HeadPlaces.{CONFIGURED, FIRST, ENDED, NEXT, K, CAPACITY, BUFFERING, REORDER, LATENCY, PREV, PREV-LSB, PREV-MSB}
 use Rattle.session.specs.HeadPlaces.{CURRENT, SERIAL, SURFACE, POC, LSB, MSB, OUTPUT, VALID, BEFORE, AFTER, LONG}
-
-abbrev pub flagOf : ℕ → Bool
-flagOf x = Shelf.flagOf x
-
-abbrev pub flagWord : Bool → ℕ
-flagWord b = Shelf.flagWord b
 
 -- the words beside the store and the run of the sets, that run, and the store's words
 pub record Memory : Type 0 where

@@ -3,22 +3,22 @@ use crate::Answer;
 use crate::HEAD;
 use crate::Refusal;
 use crate::records;
-use crate::records::Head;
 use crate::replies;
 use crate::replies::Told;
 use crate::words;
-use derivation::flag_bytes;
 use derivation::nal;
 use derivation::poc;
 use derivation::poc::Poc;
 use derivation::ref_lists::Refs;
 use format::kinds;
+use format::records::Head;
 use paper::Current;
 use paper::Limits;
 use paper::Prev;
 use paper::Serial;
 use store::Sizes;
 use store::Store;
+use wire::flag_bytes;
 ghost use mathlib.Core.Path.{_≡_};
 ghost use mathlib.Core.Bool.{cond};
 ghost use Prim.Native.Nat.{_+_};
@@ -237,7 +237,7 @@ pub(crate) fn begin(
         return replies::refuse(reply, kinds::BEGUN, Refusal::Busy);
     }
     let l = words::limits_in(head);
-    let h = records::head_of(msg);
+    let h = format::records::head_of(msg);
     if !records::begin_ranges(msg, h, l.k) {
         return replies::refuse(reply, kinds::BEGUN, Refusal::OutOfRange);
     }

@@ -2,11 +2,11 @@
 use crate::Answer;
 use crate::HEAD;
 use crate::Refusal;
-use crate::records;
 use crate::replies;
 use crate::words;
 use derivation::ranges;
 use format::kinds;
+use format::records;
 use paper::Current;
 use paper::Limits;
 use paper::Now;

@@ -101,7 +101,7 @@ pub fn step(
             len: 0,
         };
     }
-    match records::kind_of(msg) {
+    match format::records::kind_of(msg) {
         kinds::CONFIGURE => calls::configure(head, places, msg, reply),
         kinds::BEGIN => begin::begin(head, sets, places, msg, reply),
         kinds::LISTS => lists::lists(head, sets, msg, reply),

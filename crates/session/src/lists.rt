@@ -4,15 +4,18 @@ use crate::HEAD;
 use crate::Refusal;
 use crate::replies;
 use crate::words;
-use derivation::flag_bytes;
 use derivation::ref_lists;
 use derivation::ref_lists::RefList;
 use derivation::ref_lists::Refs;
 use format::kinds;
+use format::records;
+use format::records::Ask;
+use format::records::SliceHead;
 use paper::Current;
 use paper::Now;
 use paper::Serial;
 use store::Store;
+use wire::flag_bytes;
 ghost use mathlib.Core.Path.{_≡_};
 ghost use mathlib.Core.Bool.{true, cond, not, _&&_, _||_};
 ghost use mathlib.Core.List.{List};
@@ -30,54 +33,13 @@ ghost use Rattle.paper.specs.Replies.{bytesOf};
 ghost use Rattle.paper.specs.Replies.Reply.{Listed};
 ghost use Rattle.session.specs.View.{memory, sessionIn};
 ghost use Rattle.session.specs.Said.{Says, Answers, Roomy, WellFormed};
-ghost use Rattle.session.specs.Slices.{ReadsAs, numberIn, listsNumber};
-
-// What a lists record says of one list, but for its entry bytes.
-pub(crate) struct Ask {
-    pub(crate) uses: bool,
-    pub(crate) active: u8,
-    pub(crate) modify: bool,
-}
-
-// What a lists record says before its entry bytes: its slice type, its flags, whether the current picture is itself a
-// candidate, and what it says of list 0 and of list 1.
-pub(crate) struct SliceHead {
-    pub(crate) slice: u8,
-    pub(crate) flags: u8,
-    pub(crate) own: bool,
-    pub(crate) ask0: Ask,
-    pub(crate) ask1: Ask,
-}
+ghost use Rattle.format.specs.Reads.{ReadsAs};
+ghost use Rattle.session.specs.Slices.{numberIn, listsNumber};
 
 // Whether a record is accepted, or by what it is refused.
 pub(crate) enum Verdict {
     Fine,
     No(Refusal),
-}
-
-// Reads what a lists record says before its entry bytes. A B or a P slice uses list 0, a B slice uses list 1.
-fn slice_head(msg: &[u8]) -> SliceHead
-    ensures { λ r. ⌜ ReadsAs r (sliceOf (now (msg .entry))) ⌝ }
-{
-    let slice = wire::byte(msg, 4);
-    let flags = wire::byte(msg, 5);
-    let ask0 = Ask {
-        uses: slice < 2,
-        active: wire::byte(msg, 6),
-        modify: flag_bytes::bit0(flags),
-    };
-    let ask1 = Ask {
-        uses: slice == 0,
-        active: wire::byte(msg, 7),
-        modify: flag_bytes::bit1(flags),
-    };
-    SliceHead {
-        slice,
-        flags,
-        own: flag_bytes::bit2(flags),
-        ask0,
-        ask1,
-    }
 }
 
 // Whether the count of a list is within its range: "Active counts 1 to 16 where the slice type uses the list, else 0
@@ -246,7 +208,7 @@ fn lists_at(
         → Answers (listsAt s (sliceOf (now (msg .entry))) c) (now (reply .entry)) r (now (reply .exit))) ⌝ }
 {
     let serial = c.serial;
-    let h = slice_head(msg);
+    let h = records::slice_head(msg);
     match judged(run, refs, msg, h) {
         Verdict::No(why) => replies::refuse(reply, kinds::LISTED, why),
         Verdict::Fine => listed(run, refs, serial, msg, h, reply),

@@ -1,159 +1,22 @@
-// Reads records from the lent bytes.
-use derivation::flag_bytes;
+// A begin record as the derivation takes it: the ranges of its fields, and the wishes of its entries.
 use derivation::ranges;
 use derivation::wishes;
 use derivation::wishes::Wanted;
-use format::kinds;
-use paper::Limits;
-use paper::LongEntry;
+use format::records;
+use format::records::Head;
 use paper::ShortEntry;
-use paper::Surface;
 use store::Store;
 ghost use mathlib.Core.Path.{_≡_};
-ghost use mathlib.Core.Bool.{true, cond, _&&_};
-ghost use mathlib.Core.List.{_++_};
+ghost use mathlib.Core.Bool.{cond};
 ghost use Prim.Native.Nat.{ℕ, _+_, _*_, _^_, _≤_, _<_, min};
 ghost use lib.ListN.{length};
-ghost use lib.Dec.{leb, eqb};
 ghost use lib.IntN.{pos};
 ghost use Rattle.paper.specs.Words.{allB, table};
-ghost use Rattle.paper.specs.Numbers.{u8};
-ghost use Rattle.paper.specs.Records.{kindOf, lengthOf, bodyOk, limitsOf, fieldsOf};
-ghost use Rattle.paper.specs.Records.{shortAt, longAt, entries0, entries1};
+ghost use Rattle.paper.specs.Records.{fieldsOf, shortAt, longAt};
 ghost use Rattle.paper.specs.Ranges.{longOk, falling, rising, beginRanges};
 ghost use Rattle.paper.specs.Sets.{wishesOf};
-ghost use Rattle.session.specs.Parts.{kindIn, headOf, shortsAt, longsAt, Wants, WantsAll, HoldsWishes};
-
-// The fields of a begin before its entries.
-pub(crate) struct Head {
-    pub(crate) nal: u8,
-    pub(crate) tid: u8,
-    pub(crate) flags: u8,
-    pub(crate) lsb: u16,
-    pub(crate) surface: Surface,
-    pub(crate) neg: u8,
-    pub(crate) pos: u8,
-    pub(crate) lt: u8,
-}
-
-// How many entry bytes stand for list 0 in a lists record.
-fn count0(msg: &[u8]) -> usize
-    ensures { λ r. ⌜ r ≡ entries0 (now (msg .entry)) ⌝ }
-{
-    if flag_bytes::bit0(wire::byte(msg, 5)) {
-        return wire::byte(msg, 6) as usize;
-    }
-    0
-}
-
-// How many entry bytes stand for list 1.
-fn count1(msg: &[u8]) -> usize
-    ensures { λ r. ⌜ r ≡ entries1 (now (msg .entry)) ⌝ }
-{
-    if flag_bytes::bit1(wire::byte(msg, 5)) {
-        return wire::byte(msg, 7) as usize;
-    }
-    0
-}
-
-// The body length that the counts of a begin call for: 12 bytes, 5 for each short-term and 7 for each long-term entry.
-fn begin_length(msg: &[u8]) -> usize
-    ensures { λ r. ⌜ r
-        ≡ 12 + 5 * (u8 (now (msg .entry)) 13 + u8 (now (msg .entry)) 14) + 7 * u8 (now (msg .entry)) 15 ⌝ }
-{
-    let neg = wire::byte(msg, 13) as usize;
-    let pos = wire::byte(msg, 14) as usize;
-    let lt = wire::byte(msg, 15) as usize;
-    12 + 5 * (neg + pos) + 7 * lt
-}
-
-// Whether the body length is what kind and counts call for.
-fn body_ok(msg: &[u8], kind: u16, len: usize) -> bool
-    requires { ⌜ (kind ≡ kindOf (now msg)) × (len ≡ lengthOf (now msg)) ⌝ }
-    ensures { λ r. ⌜ r ≡ bodyOk (now (msg .entry)) ⌝ }
-{
-    match kind {
-        kinds::CONFIGURE => len == 6,
-        kinds::BEGIN => len == begin_length(msg),
-        kinds::LISTS => len == 4 + count0(msg) + count1(msg),
-        kinds::FINISH..=kinds::ABANDON => len == 0,
-        _ => false,
-    }
-}
-
-// The kind of a well-formed record, else 0: number 13 is "slice not exactly head plus body, body over 512 bytes,
-// unknown kind, or body length not what kind and counts call for".
-pub(crate) fn kind_of(msg: &[u8]) -> u16
-    ensures { λ r. ⌜ r ≡ kindIn (now (msg .entry)) ⌝ }
-{
-    if msg.len() < kinds::BODY_PLACE {
-        return 0;
-    }
-    let len = wire::u16_at(msg, 0) as usize;
-    if msg.len() != kinds::BODY_PLACE + len {
-        return 0;
-    }
-    if Store::BODY < len {
-        return 0;
-    }
-    let kind = wire::u16_at(msg, kinds::KIND_PLACE);
-    if body_ok(msg, kind, len) { kind } else { 0 }
-}
-
-// The limits of a configure.
-pub(crate) fn limits_of(msg: &[u8]) -> Limits
-    ensures { λ r. ⌜ r ≡ limitsOf (now (msg .entry)) ⌝ }
-{
-    Limits {
-        k: wire::byte(msg, 4),
-        capacity: wire::byte(msg, 5),
-        buffering: wire::byte(msg, 6),
-        reorder: wire::byte(msg, 7),
-        latency: wire::u16_at(msg, 8),
-    }
-}
-
-// The fields of a begin before its entries.
-pub(crate) fn head_of(msg: &[u8]) -> Head
-    ensures { λ r. ⌜ r ≡ headOf (now (msg .entry)) ⌝ }
-{
-    let surface = Surface(wire::u32_at(msg, kinds::SURFACE_PLACE));
-    Head {
-        nal: wire::byte(msg, 4),
-        tid: wire::byte(msg, 5),
-        flags: wire::byte(msg, 6),
-        lsb: wire::u16_at(msg, 7),
-        surface,
-        neg: wire::byte(msg, 13),
-        pos: wire::byte(msg, 14),
-        lt: wire::byte(msg, 15),
-    }
-}
-
-// The i-th of the short-term entries that start at byte `at`.
-fn short_entry(msg: &[u8], at: usize, i: usize) -> ShortEntry
-    requires { ⌜ (at < 1000) × (i < 1000) ⌝ }
-    ensures { λ r. ⌜ r ≡ shortAt (now (msg .entry)) at i ⌝ }
-{
-    let p = at + 5 * i;
-    ShortEntry {
-        delta: wire::i32_at(msg, p),
-        used: wire::byte(msg, p + 4),
-    }
-}
-
-// The i-th of the long-term entries that start at byte `at`.
-fn long_entry(msg: &[u8], at: usize, i: usize) -> LongEntry
-    requires { ⌜ (at < 1000) × (i < 1000) ⌝ }
-    ensures { λ r. ⌜ r ≡ longAt (now (msg .entry)) at i ⌝ }
-{
-    let p = at + 7 * i;
-    LongEntry {
-        lsb: wire::u16_at(msg, p),
-        flags: wire::byte(msg, p + 2),
-        cycle: wire::u32_at(msg, p + 3),
-    }
-}
+ghost use Rattle.format.specs.Reads.{headOf};
+ghost use Rattle.session.specs.Parts.{shortsAt, longsAt, Wants, WantsAll, HoldsWishes};
 
 // Whether the n short-term entries from byte `at` on are in range as negative ones: "Neg deltas −524,288 to −1,
 // strictly falling", "Used bytes 0 or 1".
@@ -164,7 +27,7 @@ fn falling_all(msg: &[u8], at: usize, n: usize) -> bool
     let mut last = ShortEntry { delta: 0, used: 0 };
     let mut i = 0;
     while i < n {
-        let e = short_entry(msg, at, i);
+        let e = records::short_entry(msg, at, i);
         if !ranges::falling_ok(last.delta, e) {
             return false;
         }
@@ -183,7 +46,7 @@ fn rising_all(msg: &[u8], at: usize, n: usize) -> bool
     let mut last = ShortEntry { delta: 0, used: 0 };
     let mut i = 0;
     while i < n {
-        let e = short_entry(msg, at, i);
+        let e = records::short_entry(msg, at, i);
         if !ranges::rising_ok(last.delta, e) {
             return false;
         }
@@ -201,7 +64,7 @@ fn longs_all(msg: &[u8], k: u8, at: usize, n: usize) -> bool
 {
     let mut i = 0;
     while i < n {
-        if !ranges::long_ok(k, long_entry(msg, at, i)) {
+        if !ranges::long_ok(k, records::long_entry(msg, at, i)) {
             return false;
         }
         i += 1;
@@ -286,7 +149,7 @@ fn want_shorts(
     let mut inside = true;
     let mut i = 0;
     while i < n {
-        let w = wishes::short_wish(poc, short_entry(msg, 16, i));
+        let w = wishes::short_wish(poc, records::short_entry(msg, 16, i));
         inside = want(w, i, pocs, hows) & inside;
         i += 1;
     }
@@ -312,7 +175,7 @@ fn want_longs(
     let mut inside = true;
     let mut i = 0;
     while i < n {
-        let w = wishes::long_wish(k, poc, long_entry(msg, at, i));
+        let w = wishes::long_wish(k, poc, records::long_entry(msg, at, i));
         inside = want(w, from + i, pocs, hows) & inside;
         i += 1;
     }

@@ -8,14 +8,16 @@ use paper::Now;
 use paper::Prev;
 use paper::Serial;
 use paper::Surface;
+use store::flag_of;
+use store::flag_word;
 ghost use mathlib.Core.Path.{_≡_};
 ghost use Prim.Native.Nat.{_%_};
 ghost use lib.ListN.{length};
 ghost use Rattle.paper.specs.Numbers.{aSerial};
 ghost use Rattle.paper.specs.State.{fresh as freshSession};
-ghost use Rattle.store.specs.Shelf.{word};
+ghost use Rattle.store.specs.Shelf.{word, flagOf};
 ghost use Rattle.session.specs.HeadPlaces.{CONFIGURED, FIRST, ENDED, NEXT, CURRENT};
-ghost use Rattle.session.specs.View.{flagOf, flagWord, limitsAt, prevAt, currentAt, nowAt, refsAt};
+ghost use Rattle.session.specs.View.{limitsAt, prevAt, currentAt, nowAt, refsAt};
 ghost use Rattle.session.specs.View.{Front, frontIn, idleFront, configuredFront, begunFront, endedFront};
 ghost use Rattle.session.specs.Laid.{headWords, frontOf, headOf};
 
@@ -71,20 +73,6 @@ const BEFORE: usize = 20;
 const AFTER: usize = 21;
 
 const LONG: usize = 22;
-
-// Whether a flag is on: it is unless its word is 0.
-fn flag_of(x: u32) -> bool
-    ensures { λ r. ⌜ r ≡ flagOf x ⌝ }
-{
-    x != 0
-}
-
-// The word of a flag: 1 if it is on, 0 if not.
-fn flag_word(b: bool) -> u32
-    ensures { λ r. ⌜ r ≡ flagWord b ⌝ }
-{
-    if b { 1 } else { 0 }
-}
 
 // The low 8 bits of a word.
 fn low8(x: u32) -> u8

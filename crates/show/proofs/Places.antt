@@ -1,10 +1,10 @@
 -- What stands at a place of a reply: read from there on, or behind what was dropped.
-use Prim.Native.Nat.{ℕ, zero, suc, _+_, _-_, _*_, _≤_, _<_}
+use Prim.Native.Nat.{ℕ, zero, suc, _+_, _-_, _*_, _<_}
 use mathlib.Core.Path.{_≡_, refl, sym, ap, ap₂, _∙_}
 use mathlib.Core.List.{List, [], _∷_, _++_, map, append-nil}
 use native.Mathlib.Numerals.{add-one}
 use native.Mathlib.Omega.{arith}
-use lib.ListN.{length, getD, drop}
+use lib.ListN.{getD, drop}
 use lib.Seq.{getD-drop, drop-drop}
 use mir.Val.{toZ}
 use mir.Syntax.{w32}
@@ -67,10 +67,6 @@ shown-one f l from i =
     ∙ ap (λ (x : Shown). flat f (readShown i (drop from l)) ++ f x) (shown-drop from l (shownWidth * i) (from + shownWidth * i) refl)
 
 -- a list that is empty, and one that is not: the first, and the rest
-pub none-named : {A : Type 0} (name : List ℕ) (f : A → List ℕ) → named name f [] ≡ []
-unfolding named
-none-named name f = refl
-
 pub no-words : {n : ℕ} (name : List ℕ) (f : ℕ → List ℕ) (l : List ℕ) → n ≡ 0 → named name f (readWords n l) ≡ []
 unfolding named readWords
 no-words name f l e = ap (λ (k : ℕ). named name f (readWords k l)) e

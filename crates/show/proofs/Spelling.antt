@@ -1,6 +1,6 @@
 -- Texts one behind the other, and the digits of numbers.
-use Prim.Native.Nat.{ℕ, zero, suc, _+_, _-_, _*_, _/_, _%_, _^_, _≤_, _<_}
-use mathlib.Core.Path.{_≡_, refl, sym, ap, ap₂, subst, _∙_}
+use Prim.Native.Nat.{ℕ, zero, suc, _+_, _-_, _/_, _%_, _^_, _≤_, _<_}
+use mathlib.Core.Path.{_≡_, refl, sym, ap, subst, _∙_}
 use mathlib.Core.List.{List, [], _∷_, _++_}
 use mathlib.Core.Bool.{Bool, true, false, cond, _&&_}
 use native.Mathlib.Nat.{one-le-pow, pow-le-pow-right}
@@ -16,7 +16,7 @@ use lib.Seq.{sets, take-suc, length-take-le}
 use Rattle.wire.proofs.Laws.{runs, sets-over}
 use Rattle.wire.proofs.Ints.{toZ-high}
 use Rattle.wire.specs.Bytes.{over}
-use Rattle.io.specs.Digits.{Fewest, glyph}
+use Rattle.io.specs.Digits.{Fewest}
 use Rattle.io.specs.Digits as Io
 use Rattle.show.specs.Text.{ascii, digits, decimal, integer, serialText, spelled, Wrote}
 

@@ -1,24 +1,22 @@
 -- The words of kinds and refusals, and the texts of a reply at their places.
 use Prim.Native.Nat.{ℕ, zero, suc, _+_, _-_, _*_, _<_}
 use mathlib.Core.Path.{_≡_, refl, sym, ap, ap₂, _∙_}
-use mathlib.Core.List.{List, [], _∷_, _++_}
+use mathlib.Core.List.{List, [], _++_}
 use mathlib.Core.Bool.{Bool, true, false, cond}
 use native.Mathlib.Omega.{arith}
 use borrow.Author.Tests.{eq-eqb, ne-eqb}
 use lib.Dec.{ltb}
-use lib.IntN.{ℤ}
-use lib.ListN.{length, getD, drop}
+use lib.ListN.{drop}
 use lib.Seq.{drop-drop}
 use mir.Val.{toZ}
 use mir.Syntax.{w32}
 use Rattle.paper.specs.Numbers.{u8, u16, u32, bit, serialNos}
 use Rattle.paper.specs.Kinds.{configureKind, beginKind, listsKind, finishKind, drainKind, discardKind, endKind, abandonKind, replyOffset, replyTo, numberPlace, restPlace, wordWidth, begunFlags, begunSerial, begunCounts, begunMembers, flagsPlace, serialPlace, countsPlace, membersPlace, listsPlace}
 use Rattle.paper.specs.Records.{kindOf}
-use Rattle.paper.specs.Sets.{Sets}
 use Rattle.paper.specs.Ledger.{readWords, readSerials, readTail, readSets, readBegun, readReply, setWords}
 use Rattle.paper.specs.WholeReply.{membersOf, wholeReply}
-use Rattle.show.specs.Text.{ascii, decimal, integer, serialText, spelled}
-use Rattle.show.specs.Lists.{named, shortText, longText, setsText, tailText}
+use Rattle.show.specs.Text.{ascii, decimal, integer, serialText}
+use Rattle.show.specs.Lists.{named, shortText, longText}
 use Rattle.show.specs.Lines.{kindWord, refusalWord, flagsText, refusedText, doneText, toldText, listedText, replyText, begunAt, damagedText, saidText}
 use Rattle.show.proofs.Places.{u8-drop, u32-drop, serials-at}
 

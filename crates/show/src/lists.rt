@@ -1,12 +1,10 @@
 // Lists of a reply, written into a lent buffer: the sets of a begin, reference lists, and the parts of a tail.
 use crate::text;
 use format::kinds;
-ghost use mathlib.Core.List.{[], _∷_, _++_};
-ghost use Prim.Native.Nat.{ℕ, _+_, _*_, _≤_, _<_};
+ghost use Prim.Native.Nat.{_+_, _*_, _≤_, _<_};
 ghost use lib.ListN.{length, drop};
-ghost use Rattle.paper.specs.declared.Shown.{Shown};
 ghost use Rattle.paper.specs.Words.{flat};
-ghost use Rattle.paper.specs.Numbers.{u8, u32};
+ghost use Rattle.paper.specs.Numbers.{u32};
 ghost use Rattle.paper.specs.Ledger.{readWords, readShown, readTail};
 ghost use Rattle.show.specs.Text.{ascii, spelled, Wrote};
 ghost use Rattle.show.specs.Lists.{behindComma, named, shownText, shownAt, tailText};

@@ -9,7 +9,6 @@ use stream::Read;
 ghost use mathlib.Core.Path.{_≡_};
 ghost use Prim.Native.Nat.{_+_, _-_, _≤_, _<_};
 ghost use lib.ListN.{length, drop};
-ghost use Rattle.wire.specs.Bytes.{over};
 ghost use Rattle.show.specs.Lines.{following};
 ghost use Rattle.format.specs.Cut.{sizeOf};
 ghost use Rattle.show.specs.Stream.{Added, Lines};

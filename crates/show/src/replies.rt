@@ -1,11 +1,10 @@
 // One line for each reply.
 use crate::lists;
 use crate::text;
-use derivation::flag_bytes;
 use format::kinds;
+use wire::flag_bytes;
 ghost use mathlib.Core.Path.{_≡_};
-ghost use mathlib.Core.List.{[], _∷_, _++_};
-ghost use Prim.Native.Nat.{ℕ, _+_, _-_, _*_, _≤_, _<_};
+ghost use Prim.Native.Nat.{_+_, _-_, _*_, _≤_};
 ghost use lib.ListN.{length, drop};
 ghost use Rattle.wire.specs.Bytes.{over};
 ghost use Rattle.paper.specs.Numbers.{u8, u16, bit};
@@ -13,7 +12,7 @@ ghost use Rattle.paper.specs.Kinds.{replyOffset, numberPlace, restPlace, wordWi
 ghost use Rattle.paper.specs.Kinds.{listsPlace};
 ghost use Rattle.paper.specs.Records.{kindOf};
 ghost use Rattle.paper.specs.Ledger.{readSerials, readTail, readBegun};
-ghost use Rattle.show.specs.Text.{ascii, Wrote};
+ghost use Rattle.show.specs.Text.{Wrote};
 ghost use Rattle.show.specs.Lists.{shortText, longText, setsText};
 ghost use Rattle.show.specs.Lines.{kindWord, refusalWord, refusedText, doneText, flagsText, toldText, listedText};
 ghost use Rattle.show.specs.Lines.{begunAt, damagedText, saidText, lineOf, restOf};

@@ -1,13 +1,12 @@
 // Words and numbers, written into a lent buffer. Each function gives the place behind what it wrote.
 use store::Store;
-ghost use mathlib.Core.Path.{_≡_};
-ghost use mathlib.Core.List.{[], _∷_, _++_};
+ghost use mathlib.Core.List.{[]};
 ghost use mathlib.Core.Bool.{cond};
 ghost use Prim.Native.Nat.{_+_, _≤_, _<_};
 ghost use lib.ListN.{length};
 ghost use mir.Val.{toZ};
 ghost use mir.Syntax.{w32};
-ghost use Rattle.show.specs.Text.{ascii, decimal, integer, spelled, Wrote};
+ghost use Rattle.show.specs.Text.{decimal, integer, spelled, Wrote};
 
 // These bytes.
 pub(crate) fn put(d: &mut [u8], at: usize, word: &[u8]) -> usize

@@ -14,7 +14,7 @@ use Rattle.paper.proofs.Sizes.{shrinks-while, shrinks-removed, shrinks-emptied}
 use Rattle.paper.specs.Words.{keep, table}
 use Rattle.paper.specs.Output.{still, andThen, inUse, handWhile, due, cleared, emptied, removed, beforeDecoding}
 use Rattle.paper.specs.Output as Output
-use Rattle.paper.specs.Calls.{raised, stored, finished, drained, dropped, discarded}
+use Rattle.paper.specs.Calls.{stored, drained, dropped, discarded}
 use Rattle.paper.specs.declared.Shown.{Shown}
 use Rattle.paper.specs.declared.Serial.{Serial}
 use Rattle.paper.specs.declared.Surface.{Surface}

@@ -4,14 +4,12 @@ use mathlib.Core.Path.{_≡_, refl, sym, ap, _∙_}
 use mathlib.Core.Bool.{Bool, true, false}
 use mathlib.Core.List.{List, [], _∷_, _++_, map}
 use native.Mathlib.Omega.{arith}
-use native.Mathlib.Numerals.{add-one}
 use lib.Dec.{leb}
-use lib.ListN.{length, take}
+use lib.ListN.{take}
 use lib.Seq.{take-all, take-append-seam}
 use borrow.Author.Tests.{leb-true, leb-false}
 use Rattle.paper.proofs.Bools.{split}
 use Rattle.paper.proofs.Fits.{table-length}
-use Rattle.paper.specs.Words.{table}
 use Rattle.paper.specs.Sets.{unmarkedIf}
 use Rattle.paper.specs.declared.Picture.{Picture}
 use Rattle.store.specs.Walks.{changeBy, unmarkIf}

@@ -1,6 +1,6 @@
 -- A store read from its words and written to them, picture after picture: those before a place are read or written, and what was tidy stays so. Assumes nothing.
-use Prim.Native.Nat.{ℕ, _+_, _≤_, _<_, min, max}
-use mathlib.Core.Path.{_≡_, refl, sym, ap, _∙_, subst}
+use Prim.Native.Nat.{ℕ, _+_, _≤_, _<_, max}
+use mathlib.Core.Path.{_≡_, sym, _∙_, subst}
 use mathlib.Core.List.{List, map}
 use native.Mathlib.Omega.{arith}
 use lib.Dec.{eqb}
@@ -8,7 +8,6 @@ use lib.ListN.{length, set, length-set}
 use lib.Seq.{getD-set-same, getD-set-other}
 use borrow.Author.Tests.{eqb-true, eqb-false}
 use Rattle.paper.proofs.Bools.{split}
-use Rattle.paper.specs.Words.{table}
 use Rattle.paper.specs.declared.Picture.{Picture}
 use Rattle.store.specs.Walks.{blank}
 use Rattle.store.specs.Shelf.{word, pictureAt, pictures, countIn, Puts, Tidy, NormalForm}

@@ -60,10 +60,6 @@ table-join f a (suc b) =
 pub off : (t : List ℕ) (a b v : ℕ) → (b ≡ a → ⊥) → word (set t a v) b ≡ word t b
 off t a b v n = getD-set-other t a b v 0 n
 
--- a picture behind the first n
-pub stores : (n : ℕ) (p : Picture) (t t′ : List ℕ) (ps : List Picture) → Puts n p t t′ → pictures t n ≡ ps → pictures t′ (n + 1) ≡ ps ++ (p ∷ [])
-stores n p t t′ ps h e = table-next (pictureAt t′) (pictureAt t) n p (λ i l. h .others i (λ x. omega arith)) (h .at) ∙ ap (λ (l : List Picture). l ++ (p ∷ [])) e
-
 -- the picture at another place than the one written to
 pub elsewhere : (t : List ℕ) (i f v j : ℕ) → f < 6 → (j ≡ i → ⊥) → pictureAt (set t (6 * i + f) v) j ≡ pictureAt t j
 unfolding pictureAt

@@ -1,5 +1,5 @@
 -- What a walk over the stored pictures looks for or does, as tests and changes of one picture.
-use mathlib.Core.Bool.{Bool, true, false, cond, not, _&&_}
+use mathlib.Core.Bool.{Bool, false, cond, not, _&&_}
 use mathlib.Core.List.{List, [], _∷_}
 use Prim.Native.Nat.{ℕ, _^_, min}
 use lib.Dec.{eqb, leb}

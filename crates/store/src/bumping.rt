@@ -5,7 +5,6 @@ ghost use lib.Signed.{ltZ};
 ghost use Prim.Native.Nat.{_+_, _≤_, _<_};
 ghost use Rattle.paper.specs.Output.{andThen, shown};
 ghost use Rattle.paper.specs.State.{isMarked};
-ghost use Rattle.store.specs.Places.{front};
 ghost use Rattle.store.specs.Tails.{GoodReleased, startedIn, HoldsMoved};
 ghost use Rattle.store.specs.Bumps.{Scans, nothingSeen, lowerBy, seenBy, dueBy, dueScan, dueNow, alwaysBy};
 ghost use Rattle.store.specs.Bumps.{latencyBy, turnsBy, Bumps};

@@ -25,6 +25,8 @@ pub use words::discard;
 pub use words::drain;
 pub use words::finish_and_drain;
 pub use words::finish_picture;
+pub use words::flag_of;
+pub use words::flag_word;
 pub use words::forget_all;
 pub use words::holds_surface;
 pub use words::room_in;
@@ -111,9 +113,6 @@ impl Store {
 
     // The least reply buffer, in bytes.
     pub const REPLY: usize = 512;
-
-    // The largest body of a record, in bytes.
-    pub const BODY: usize = 512;
 
     // Stands for a missing picture.
     pub const MISSING: u32 = 4294967295;

@@ -6,7 +6,6 @@ ghost use lib.Dec.{ltb};
 ghost use lib.IntN.{pos};
 ghost use Rattle.paper.specs.Poc.{modZ, eqZ};
 ghost use Rattle.paper.specs.State.{isMarked, isShortTerm, countLimit};
-ghost use Rattle.paper.specs.Numbers.{sameSerial};
 ghost use Rattle.paper.specs.Step.{heldBy};
 ghost use Rattle.paper.specs.Sets.{marked};
 ghost use Rattle.paper.specs.Calls.{raised};

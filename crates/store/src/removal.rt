@@ -1,11 +1,11 @@
 // Pictures leave the store: the others move up, in store order (C.5.2.2, C.5.2.4).
 ghost use mathlib.Core.Path.{_≡_};
 ghost use mathlib.Core.Bool.{false};
-ghost use mathlib.Core.List.{[], map, _++_};
+ghost use mathlib.Core.List.{map};
 ghost use Prim.Native.Nat.{_+_, _≤_};
 ghost use Rattle.paper.specs.Words.{keep};
 ghost use Rattle.paper.specs.Output.{inUse};
-ghost use Rattle.store.specs.Walks.{serialOf, surfaceOf};
+ghost use Rattle.store.specs.Walks.{surfaceOf};
 ghost use Rattle.store.specs.Places.{front};
 ghost use Rattle.store.specs.Tails.{HoldsReleased, GoodMoved, Releases, Throws, unused};
 use crate::Moved;

@@ -10,10 +10,10 @@ ghost use Rattle.store.specs.Runs.{memberFor, filled};
 use crate::Store;
 use crate::pictures::Sought;
 use crate::pictures::passes;
-use derivation::flag_bytes;
 use paper::Found;
 use paper::Picture;
 use paper::Serial;
+use wire::flag_bytes;
 
 // How many places are used: a length over 16 counts as 16.
 pub(crate) fn used_in(s: Store) -> usize

@@ -2,7 +2,6 @@
 ghost use mathlib.Core.Path.{_≡_};
 ghost use mathlib.Core.List.{[], _++_};
 ghost use Prim.Native.Nat.{_+_, _^_, _≤_, min};
-ghost use lib.ListN.{take};
 ghost use Rattle.store.specs.Places.{storedIn};
 ghost use Rattle.store.specs.Runs.{wishesIn, Settles, GoodRuns, HoldsRuns, usedIn, restIn, usedAt, unusedAt};
 ghost use Rattle.store.specs.Runs.{Derives};
@@ -12,10 +11,10 @@ use crate::Store;
 use crate::lent::settle_in;
 use crate::marks::mark_where;
 use crate::searches::find_members;
-use derivation::flag_bytes;
 use paper::Mark;
 use paper::Picture;
 use paper::Serial;
+use wire::flag_bytes;
 
 // The places of a store after step 4, and what each entry found: neg, pos and lt ones, one behind the other.
 pub struct Settled {

@@ -80,15 +80,15 @@ pub fn room_in(t: &[u32; Store::WORDS], l: Limits) -> Room
     }
 }
 
-// A flag is on unless its word is 0.
-fn flag_of(x: u32) -> bool
+// Whether a flag is on: it is unless its word is 0.
+pub fn flag_of(x: u32) -> bool
     ensures { λ r. ⌜ r ≡ flagOf x ⌝ }
 {
     x != 0
 }
 
-// 1 for a flag that is on.
-fn flag_word(b: bool) -> u32
+// The word of a flag: 1 if it is on, 0 if not.
+pub fn flag_word(b: bool) -> u32
     ensures { λ r. ⌜ r ≡ flagWord b ⌝ }
 {
     if b { 1 } else { 0 }

@@ -1,23 +1,20 @@
 -- The bytes of a reply: the words and events that stand at a place.
-use Prim.Native.Nat.{ℕ, zero, suc, _+_, _-_, _*_, _≤_, _<_, min}
+use Prim.Native.Nat.{ℕ, zero, suc, _+_, _*_}
 use mathlib.Core.Path.{_≡_, refl, sym, ap, _∙_}
-use mathlib.Core.Bool.{Bool, true, false, cond, not, _&&_, _||_}
-use mathlib.Core.List.{List, [], _∷_, _++_, map, map-append, append-assoc}
+use mathlib.Core.Bool.{false, _&&_}
+use mathlib.Core.List.{List, [], _∷_, _++_, map}
 use native.Mathlib.Omega.{arith}
-use native.Mathlib.Numerals.{add-one}
-use lib.ListN.{length, drop, getD, length-map}
+use lib.ListN.{length, drop, length-map}
 use lib.Seq.{getD-drop, drop-drop}
 use lib.Dec.{eqb}
-use borrow.Author.Tests.{eq-eqb, ne-eqb}
-use Rattle.paper.specs.Numbers.{u8, u16, u32, i32, aSerial, aSurface}
+use borrow.Author.Tests.{ne-eqb}
+use Rattle.paper.specs.Numbers.{u8, u32, aSerial}
 use Rattle.paper.specs.Kinds.{shownWidth}
 use Rattle.paper.specs.WholeReply.{thrownAt, releasedAt}
-use Rattle.paper.specs.Ledger.{Event, Hand, Throw, Free, readWords, readShown, readReleased, readTail, events, none}
+use Rattle.paper.specs.Ledger.{readWords, readShown, readReleased, readTail, events, none}
 use Rattle.watch.specs.declared.events.Part.{Part}
 use Rattle.watch.specs.declared.events.Part.the-variants.{Handed, Thrown, Released}
 use Rattle.watch.specs.Events.{shownAt, eventAt, sizeOf, eventsOf, counted}
-use Rattle.paper.specs.declared.Shown.{Shown}
-use Rattle.paper.proofs.Bools.{split}
 
 -- ---- a number at a place
 

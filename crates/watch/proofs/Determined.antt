@@ -1,23 +1,22 @@
 -- What the contracts come to: the result of `hear` is determined whole, and its book is the paper's ledger.
-use Prim.Native.Nat.{ℕ, _≤_, min}
+use Prim.Native.Nat.{ℕ, min}
 use mathlib.Core.Path.{_≡_, refl, sym, ap, _∙_}
-use mathlib.Core.Bool.{Bool, true, false}
-use mathlib.Core.List.{List, [], _∷_}
+use mathlib.Core.Bool.{true}
+use mathlib.Core.List.{List}
 use native.Mathlib.Omega.{arith}
 use lib.Dec.{eqb}
 use borrow.Author.Tests.{eqb-true, eqb-false}
-use Rattle.derivation.specs.Pad.{Padded, used}
+use Rattle.derivation.specs.Pad.{used}
 use Rattle.derivation.proofs.Pad.{is-view}
-use Rattle.paper.specs.Ledger.{Ledger, blank, hear, readReply}
+use Rattle.paper.specs.Ledger.{Ledger, blank}
 use Rattle.paper.specs.Watch.{partOf}
-use Rattle.paper.specs.declared.Line.{Line}
 use Rattle.paper.proofs.Bools.{split}
 use Rattle.watch.specs.declared.Slot.{Slot}
 use Rattle.watch.specs.declared.Slot.the-variants.{Idle, Is}
 use Rattle.watch.specs.declared.Tally.{Tally}
 use Rattle.watch.specs.declared.Book.{Book}
 use Rattle.watch.specs.declared.Heard.{Heard}
-use Rattle.watch.specs.Book.{view, clamped, currentIn, bookIn, HoldsBook, tallied, noTally}
+use Rattle.watch.specs.Book.{view, clamped, currentIn, bookIn, HoldsBook, noTally}
 use Rattle.watch.specs.Hears.{Hears}
 
 one-slot : (x y : Slot) → currentIn x ≡ currentIn y → x ≡ y

@@ -1,20 +1,18 @@
 -- The contract of `hear`, from what its parts answer; and that it determines the whole result.
-use Prim.Native.Nat.{ℕ, suc, _+_, _≤_, min}
-use mathlib.Core.Path.{_≡_, refl, sym, ap, _∙_}
-use mathlib.Core.Bool.{Bool, true, false, not}
-use mathlib.Core.List.{List, []}
+use Prim.Native.Nat.{ℕ}
+use mathlib.Core.Path.{_≡_, refl, sym, _∙_}
+use mathlib.Core.Bool.{true, false}
+use mathlib.Core.List.{List}
 use native.Mathlib.Omega.{arith}
-use lib.Dec.{eqb}
 use borrow.Author.Tests.{ne-eqb}
 use Rattle.derivation.proofs.Pad.{is-view, is-good}
 use Rattle.paper.specs.Words.{first}
-use Rattle.paper.specs.Replies.{Reply}
 use Rattle.paper.specs.WholeReply.{wholeReply}
-use Rattle.paper.specs.Ledger.{Ledger, heard, readReply, tell, hear}
+use Rattle.paper.specs.Ledger.{heard, readReply}
 use Rattle.paper.specs.Watch.{replyPart, partOf}
 use Rattle.watch.specs.declared.Book.{Book}
 use Rattle.watch.specs.declared.Heard.{Heard}
-use Rattle.watch.specs.Book.{view, clamped, currentIn, bookIn, HoldsBook, tallied, withTally}
+use Rattle.watch.specs.Book.{view, clamped, bookIn, HoldsBook, tallied, withTally}
 use Rattle.watch.specs.Judging.{Tidy, pageOf, Judged}
 use Rattle.watch.specs.Hears.{Hears}
 

@@ -1,15 +1,14 @@
 -- The part that events break: one event after the other.
-use Prim.Native.Nat.{ℕ, zero, suc, _+_, _-_, _≤_, _<_}
-use mathlib.Core.Path.{_≡_, refl, sym, ap, _∙_}
-use mathlib.Core.Bool.{Bool, true, false, cond, not, _&&_, _||_}
+use Prim.Native.Nat.{ℕ, suc, _+_, _-_, _≤_, _<_}
+use mathlib.Core.Path.{_≡_, refl, sym, _∙_}
+use mathlib.Core.Bool.{Bool, true, false, not, _&&_, _||_}
 use mathlib.Core.List.{List, [], _∷_, _++_}
 use native.Mathlib.Omega.{arith}
 use lib.ListN.{drop}
 use lib.Dec.{eqb}
-use borrow.Author.Tests.{ne-eqb, eqb-true, eqb-false}
+use borrow.Author.Tests.{ne-eqb, eqb-false}
 use Rattle.derivation.proofs.Pad.{is-view}
 use Rattle.paper.specs.Words.{first, anyB, allB}
-use Rattle.paper.specs.Numbers.{u8}
 use Rattle.paper.specs.Ledger.{Event, Hand, Throw, Free, waits, waitsAs, lies, quietAt, upon, uponAll}
 use Rattle.paper.specs.Watch.{eventPart, tailPart}
 use Rattle.paper.specs.declared.Serial.{Serial}
@@ -17,7 +16,7 @@ use Rattle.paper.specs.declared.Surface.{Surface}
 use Rattle.paper.specs.declared.Shown.{Shown}
 use Rattle.paper.specs.declared.Line.{Line}
 use Rattle.paper.proofs.Bools.{split}
-use Rattle.watch.specs.Book.{Holds, view, Good}
+use Rattle.watch.specs.Book.{Holds, view}
 use Rattle.watch.specs.Walks.{waitsAt}
 use Rattle.watch.specs.Events.{Tells, eventAt, sizeOf, eventsOf}
 use Rattle.watch.specs.declared.Lines.{Lines}

@@ -1,22 +1,22 @@
 -- What `readReply` reads, by cases, and where its parts stand.
-use Prim.Native.Nat.{ℕ, zero, suc, _+_, _-_, _*_, _≤_, _<_, min}
+use Prim.Native.Nat.{ℕ, suc, _+_, _-_, _*_, _≤_, min}
 use mathlib.Core.Path.{_≡_, refl, sym, ap, _∙_}
-use mathlib.Core.Bool.{Bool, true, false, cond, not, _&&_, _||_}
-use mathlib.Core.List.{List, [], _∷_, _++_, map, map-append, append-assoc}
+use mathlib.Core.Bool.{true, false, cond}
+use mathlib.Core.List.{List, _++_, map, map-append}
 use native.Mathlib.Omega.{arith}
-use lib.ListN.{length, drop}
+use lib.ListN.{drop}
 use lib.Seq.{getD-drop, drop-drop}
 use lib.Dec.{eqb}
-use borrow.Author.Tests.{eq-eqb, ne-eqb, eqb-true, eqb-false}
+use borrow.Author.Tests.{ne-eqb, eqb-true, eqb-false}
 use Rattle.paper.specs.Numbers.{u8, u16, u32, i32, bit, aSerial, aSurface}
 use Rattle.paper.specs.Kinds.{beginKind, listsKind, replyOffset, replyTo, malformedReply, numberPlace, restPlace, wordWidth, shownWidth, surfacePlace, begunCounts, begunMembers, flagsPlace, serialPlace, membersPlace, listsPlace}
 use Rattle.paper.specs.Records.{kindOf}
-use Rattle.paper.specs.Words.{allB, anyB}
+use Rattle.paper.specs.Words.{allB}
 use Rattle.paper.specs.Sets.{inOrder}
 use Rattle.paper.specs.Replies.{Reply}
 use Rattle.paper.specs.WholeReply.{thrownAt, membersOf, tailPlace}
 use Rattle.paper.specs.Accounts.{tailIn}
-use Rattle.paper.specs.Ledger.{readWords, readSerials, readSets, readBegun, readTail, setWords, readReply, heard, lineOf, names}
+use Rattle.paper.specs.Ledger.{readWords, readSerials, readSets, readBegun, setWords, readReply, heard, lineOf, names}
 use Rattle.paper.specs.declared.Serial.{Serial}
 use Rattle.paper.specs.declared.Line.{Line}
 use Rattle.paper.proofs.Bools.{split}
@@ -25,7 +25,7 @@ use Rattle.watch.specs.Places.{startedIn, doneIn}
 use Rattle.watch.specs.Book.{listsIn, tallied, most}
 use Rattle.watch.specs.Judging.{calls}
 use Rattle.watch.specs.declared.Tally.{Tally}
-use Rattle.watch.proofs.Bytes.{u8-drop, u32-drop, words-more, words-append, thrown-count, handed-count}
+use Rattle.watch.proofs.Bytes.{u32-drop, words-more, words-append, thrown-count, handed-count}
 
 -- ---- the kind of reply
 

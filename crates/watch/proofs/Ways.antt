@@ -1,33 +1,32 @@
 -- Each way out of the judging functions: what the code found gives the part that the paper names, and the book after it.
-use Prim.Native.Nat.{ℕ, zero, suc, _+_, _-_, _*_, _≤_, _<_}
+use Prim.Native.Nat.{ℕ, _+_, _*_, _≤_, _<_}
 use mathlib.Core.Path.{_≡_, refl, sym, ap, _∙_}
-use mathlib.Core.Bool.{Bool, true, false, cond, not, _&&_, _||_}
-use mathlib.Core.List.{List, [], _∷_, _++_, map}
+use mathlib.Core.Bool.{Bool, true, false, not, _&&_, _||_}
+use mathlib.Core.List.{List, [], _∷_, _++_}
 use native.Mathlib.Omega.{arith}
-use lib.ListN.{length, drop, length-map, length-append}
+use lib.ListN.{length, drop, length-map}
 use lib.Seq.{getD-drop}
 use lib.Dec.{eqb, ltb}
 use borrow.Author.Tests.{eq-eqb, ne-eqb, lt-ltb, le-ltb}
-use Rattle.derivation.proofs.Pad.{is-view, is-good}
-use Rattle.paper.specs.Words.{_gives_, first, anyB, keep}
-use Rattle.paper.specs.Numbers.{u8, u16, u32, bit}
+use Rattle.derivation.proofs.Pad.{is-view}
+use Rattle.paper.specs.Words.{_gives_, first, anyB}
+use Rattle.paper.specs.Numbers.{u8, bit}
 use Rattle.paper.specs.Kinds.{finishKind, discardKind, endKind, abandonKind, restPlace, wordWidth, shownWidth, begunMembers, flagsPlace, membersPlace}
 use Rattle.paper.specs.Sets.{inOrder}
 use Rattle.paper.specs.Output.{Tail}
-use Rattle.paper.specs.Replies.{Reply, Begun}
+use Rattle.paper.specs.Replies.{Reply}
 use Rattle.paper.specs.WholeReply.{thrownAt, membersOf}
 use Rattle.paper.specs.Ledger.{Ledger, Event, Hand, Throw, Free, lies, off, free, upon, uponAll, events, none, names, clearing, readBegun, readTail, readSerials, setWords, lineOf, tell}
 use Rattle.paper.specs.Watch.{tailPart, startedPart, replyPart}
 use Rattle.paper.specs.declared.Serial.{Serial}
 use Rattle.paper.specs.declared.Line.{Line}
 use Rattle.watch.specs.declared.Slot.the-variants.{Idle, Is}
-use Rattle.watch.specs.declared.Lines.{Lines}
 use Rattle.watch.specs.declared.Book.{Book}
 use Rattle.watch.specs.declared.Heard.{Heard}
 use Rattle.watch.specs.declared.events.Told.{Told}
-use Rattle.watch.specs.Book.{Holds, view, Good, currentIn, HoldsBook}
+use Rattle.watch.specs.Book.{Holds, view, currentIn, HoldsBook}
 use Rattle.watch.specs.Events.{Tells}
-use Rattle.watch.specs.Places.{startedIn, doneIn}
+use Rattle.watch.specs.Places.{startedIn}
 use Rattle.watch.specs.Judging.{Tidy, pageOf, leftPart, Gives, Judged, Lists, Ends, Abandons, Lands}
 use Rattle.watch.proofs.Walks.{keep-short}
 use Rattle.watch.proofs.Bytes.{none-thrown, none-handed}

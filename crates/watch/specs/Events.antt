@@ -1,7 +1,7 @@
 -- The events of a tail where they lie in the bytes.
-use Prim.Native.Nat.{ℕ, zero, suc, _+_, _*_}
+use Prim.Native.Nat.{ℕ, _+_, _*_}
 use mathlib.Core.Path.{_≡_}
-use mathlib.Core.List.{List, [], _∷_, map}
+use mathlib.Core.List.{List, map}
 use lib.ListN.{drop}
 use Rattle.paper.specs.Numbers.{u8, u32, i32, aSerial, aSurface}
 use Rattle.paper.specs.Kinds.{wordWidth, shownWidth}

@@ -2,7 +2,7 @@
 use Prim.Native.Nat.{ℕ}
 use mathlib.Core.Path.{_≡_}
 use mathlib.Core.List.{List}
-use Rattle.paper.specs.Ledger.{Ledger, hear, readReply}
+use Rattle.paper.specs.Ledger.{hear, readReply}
 use Rattle.paper.specs.Watch.{partOf}
 use Rattle.watch.specs.Book.{bookIn, HoldsBook, tallied}
 use Rattle.watch.specs.declared.Book.{Book}

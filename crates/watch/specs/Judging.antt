@@ -4,7 +4,6 @@ use mathlib.Core.Path.{_≡_}
 use mathlib.Core.List.{List, [], _∷_}
 use mathlib.Core.Bool.{Bool, true, not, _||_}
 use lib.ListN.{drop}
-use lib.Dec.{eqb}
 use Rattle.paper.specs.Words.{_gives_, first, anyB}
 use Rattle.paper.specs.Numbers.{missing, sameSerial}
 use Rattle.paper.specs.Kinds.{restPlace, wordWidth, membersPlace}

@@ -5,7 +5,6 @@ use paper::Shown;
 use paper::Surface;
 ghost use mathlib.Core.Path.{_≡_};
 ghost use mathlib.Core.Bool.{not};
-ghost use lib.Dec.{eqb};
 ghost use Rattle.paper.specs.Poc.{eqZ};
 ghost use Rattle.paper.specs.Ledger.{waitsAs, waits, lies, off};
 ghost use Rattle.watch.specs.Walks.{asking, changing, waitsAt, named};

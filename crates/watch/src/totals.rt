@@ -9,7 +9,7 @@ ghost use mathlib.Core.List.{_++_};
 ghost use Prim.Native.Nat.{_≤_};
 ghost use lib.ListN.{length};
 ghost use Rattle.paper.specs.Accounts.{wanting};
-ghost use Rattle.watch.specs.Book.{view, clamped, currentIn, bookIn};
+ghost use Rattle.watch.specs.Book.{view, clamped, bookIn};
 
 // How many of the lines wait.
 fn waiting_count(l: Lines) -> usize

@@ -1,4 +1,6 @@
 // "All numbers little-endian": numbers read from and written to lent bytes.
+pub mod flag_bytes;
+
 ghost use mathlib.Core.Path.{_≡_};
 ghost use Prim.Native.Nat.{_+_, _*_, _≤_};
 ghost use lib.ListN.{length};
@@ -30,7 +32,7 @@ fn whole(lo: u16, hi: u16) -> u32
 }
 
 // No slice is longer, and a place below it and a few more do not overflow.
-const BEYOND: usize = 0x8000_0000_0000_0000;
+pub const BEYOND: usize = 0x8000_0000_0000_0000;
 
 // The u16 at a place. One test is enough where both bytes are there.
 pub fn u16_at(s: &[u8], at: usize) -> u16

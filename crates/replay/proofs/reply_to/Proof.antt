@@ -3,9 +3,6 @@ use Rattle.replay.proofs.Answering.{added}
 use borrow.Author.Needs.{needs}
 use Rattle.replay.proofs.reply_to.Statement.{statement}
 use Rattle.replay.proofs.reply_to.Tie as tie
-use Rattle.replay.proofs.reply_to.Reads as reads
-use Rattle.replay.proofs.reply_to.Lts as lts
-use Rattle.session.proofs.step.Reads as step-reads
 
 sub-step : tie.Need-sub-step
 sub-step c = search needs

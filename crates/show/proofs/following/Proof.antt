@@ -3,8 +3,6 @@ use borrow.Author.Needs.{needs}
 use borrow.Author.Tests.{lt-ltb, le-ltb}
 use Rattle.show.proofs.following.Statement.{statement}
 use Rattle.show.proofs.following.Tie as tie
-use Rattle.show.proofs.following.Reads as reads
-use Rattle.show.proofs.following.Lts as lts
 
 -- src/main.rt:57:23
 add-result : tie.Need-add-result

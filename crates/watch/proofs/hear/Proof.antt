@@ -1,7 +1,7 @@
 -- Each way out, in the order of the parts.
 use denote.Ref.{now}
 use native.Mathlib.Omega.{arith}
-use mathlib.Core.Path.{_≡_, _∙_, sym, refl}
+use mathlib.Core.Path.{_≡_, _∙_, sym}
 use Rattle.watch.proofs.Hearing.{hears-1, hears-2, tidied, hears-part, hears-0}
 use Rattle.watch.proofs.PartLaws.{flip, flop}
 use borrow.Author.Needs.{needs}

@@ -5,8 +5,6 @@ use lib.ListN.{List·getD-eq-default}
 use borrow.Author.Needs.{needs}
 use Rattle.wire.proofs.byte.Statement.{statement}
 use Rattle.wire.proofs.byte.Tie as tie
-use Rattle.wire.proofs.byte.Reads as reads
-use Rattle.wire.proofs.byte.Lts as lts
 
 shared-slice-read-result : tie.Need-shared-slice-read-result
 shared-slice-read-result c = search needs

@@ -6,8 +6,6 @@ use native.Mathlib.Omega.{arith}
 use borrow.Author.Needs.{needs}
 use Rattle.wire.proofs.put_u16.Statement.{statement}
 use Rattle.wire.proofs.put_u16.Tie as tie
-use Rattle.wire.proofs.put_u16.Reads as reads
-use Rattle.wire.proofs.put_u16.Lts as lts
 
 cast-d : tie.Need-cast-d
 cast-d c = search needs

@@ -8,8 +8,6 @@ use borrow.Author.Needs.{needs}
 use Rattle.paper.specs.Numbers.{bytes32}
 use Rattle.wire.proofs.put_u32.Statement.{statement}
 use Rattle.wire.proofs.put_u32.Tie as tie
-use Rattle.wire.proofs.put_u32.Reads as reads
-use Rattle.wire.proofs.put_u32.Lts as lts
 
 cast-d : tie.Need-cast-d
 cast-d c = search needs

@@ -8,9 +8,6 @@ use Rattle.wire.proofs.Laws.{runs}
 use borrow.Author.Needs.{needs}
 use Rattle.wire.proofs.put_u64.Statement.{statement}
 use Rattle.wire.proofs.put_u64.Tie as tie
-use Rattle.wire.proofs.put_u64.Reads as reads
-use Rattle.wire.proofs.put_u64.Lts as lts
-use Rattle.wire.proofs.put_u32.Reads as put-u32-reads
 
 cast-put-u32 : tie.Need-cast-put-u32
 cast-put-u32 c = search needs

@@ -9,10 +9,6 @@ use borrow.Author.Needs.{needs}
 use Rattle.wire.proofs.Laws.{none16}
 use Rattle.wire.proofs.u16_at.Statement.{statement}
 use Rattle.wire.proofs.u16_at.Tie as tie
-use Rattle.wire.proofs.u16_at.Reads as reads
-use Rattle.wire.proofs.u16_at.Lts as lts
-use Rattle.wire.proofs.byte.Reads as byte-reads
-use Rattle.wire.proofs.half.Reads as half-reads
 
 add-if2 : tie.Need-add-if2
 add-if2 c = search needs

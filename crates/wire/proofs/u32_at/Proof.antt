@@ -6,11 +6,6 @@ use borrow.Author.Needs.{needs}
 use Rattle.wire.proofs.Laws.{none32}
 use Rattle.wire.proofs.u32_at.Statement.{statement}
 use Rattle.wire.proofs.u32_at.Tie as tie
-use Rattle.wire.proofs.u32_at.Reads as reads
-use Rattle.wire.proofs.u32_at.Lts as lts
-use Rattle.wire.proofs.half.Reads as half-reads
-use Rattle.wire.proofs.u16_at.Reads as u16-at-reads
-use Rattle.wire.proofs.whole.Reads as whole-reads
 
 add-if2 : tie.Need-add-if2
 add-if2 c = search needs

@@ -6,10 +6,6 @@ use Rattle.wire.proofs.Laws.{none64}
 use borrow.Author.Needs.{needs}
 use Rattle.wire.proofs.u64_at.Statement.{statement}
 use Rattle.wire.proofs.u64_at.Tie as tie
-use Rattle.wire.proofs.u64_at.Reads as reads
-use Rattle.wire.proofs.u64_at.Lts as lts
-use Rattle.wire.proofs.u32_at.Reads as u32-at-reads
-use Rattle.wire.proofs.wide.Reads as wide-reads
 
 u32-at-requires : tie.Need-u32-at-requires
 u32-at-requires c κs = search needs

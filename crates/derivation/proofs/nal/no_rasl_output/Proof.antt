@@ -5,7 +5,7 @@ use Prim.Native.Nat.{ℕ, _<_}
 use borrow.Author.Needs.{needs}
 use Rattle.paper.specs.Nal.{idr, bla, cra}
 use Rattle.derivation.specs.Classes.{classOf, noRaslIn}
-use Rattle.derivation.proofs.Below.{bytes-agree}
+use Rattle.wire.proofs.Below.{bytes-agree}
 use Rattle.derivation.proofs.nal.no_rasl_output.Statement.{statement}
 use Rattle.derivation.proofs.nal.no_rasl_output.Tie as tie
 

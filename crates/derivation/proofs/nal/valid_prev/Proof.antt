@@ -6,7 +6,7 @@ use lib.Dec.{eqb}
 use borrow.Author.Needs.{needs}
 use Rattle.paper.specs.Nal.{rasl, radl, subLayerNonReference}
 use Rattle.derivation.specs.Classes.{classOf, prevIn}
-use Rattle.derivation.proofs.Below.{bytes-agree}
+use Rattle.wire.proofs.Below.{bytes-agree}
 use Rattle.derivation.proofs.nal.valid_prev.Statement.{statement}
 use Rattle.derivation.proofs.nal.valid_prev.Tie as tie
 

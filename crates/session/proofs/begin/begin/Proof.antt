@@ -11,7 +11,7 @@ use Rattle.paper.specs.Records.{fieldsOf}
 use Rattle.paper.specs.State.{Session, isCurrent, modulus}
 use Rattle.paper.specs.Ranges.{beginRanges}
 use Rattle.paper.specs.Step.{heldBy}
-use Rattle.session.specs.declared.records.Head.{Head}
+use Rattle.format.specs.declared.records.Head.{Head}
 use Rattle.session.proofs.Ways.{begin-1, begin-3, begin-5, begin-8, begin-7}
 use Rattle.session.proofs.Fronts.{is-now}
 use Rattle.session.proofs.Saying.{does-refuse}

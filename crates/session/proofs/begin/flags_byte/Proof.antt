@@ -1,5 +1,5 @@
 -- Four bits of 1, 2, 4 and 8.
-use Rattle.session.proofs.Entries.{at-most}
+use Rattle.format.proofs.Reading.{at-most}
 use native.Mathlib.Omega.{arith}
 use borrow.Author.Needs.{needs}
 use Rattle.session.proofs.begin.flags_byte.Statement.{statement}

@@ -4,9 +4,9 @@ use mathlib.Core.Bool.{Bool, cond, not, _&&_}
 use lib.Dec.{eqb, ltb, leb}
 use Rattle.paper.specs.Records.{ListAsk, Slice}
 use Rattle.paper.specs.Ranges.{activeOk, listsRanges}
-use Rattle.session.specs.declared.lists.Ask.{Ask}
-use Rattle.session.specs.declared.lists.SliceHead.{SliceHead}
-use Rattle.session.specs.Slices.{AsksAs, ReadsAs}
+use Rattle.format.specs.declared.records.Ask.{Ask}
+use Rattle.format.specs.declared.records.SliceHead.{SliceHead}
+use Rattle.format.specs.Reads.{AsksAs, ReadsAs}
 use borrow.Author.Needs.{needs}
 use Rattle.session.proofs.lists.lists_ranges.Statement.{statement}
 use Rattle.session.proofs.lists.lists_ranges.Tie as tie

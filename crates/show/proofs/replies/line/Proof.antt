@@ -1,6 +1,5 @@
 -- The number, the reply and a line feed.
 use borrow.Author.Needs.{needs}
-use native.Mathlib.Omega.{arith}
 use Rattle.show.specs.Lines.{lineOf}
 use Rattle.show.proofs.Spelling.{_then_, from-start}
 use Rattle.show.proofs.replies.line.Statement.{statement}

@@ -1,5 +1,5 @@
 -- `put_reply`: the code asks the definition's own tests in its order, and each way writes that way's text.
-use mathlib.Core.Path.{_≡_, sym, _∙_}
+use mathlib.Core.Path.{sym, _∙_}
 use borrow.Author.Tests.{not-true, not-false}
 use borrow.Author.Needs.{needs}
 use native.Mathlib.Omega.{arith}

@@ -8,8 +8,6 @@ use lib.Seq.{sets, take-length}
 use Rattle.show.proofs.Spelling.{one-stored}
 use Rattle.show.proofs.text.put.Statement.{statement}
 use Rattle.show.proofs.text.put.Tie as tie
-use Rattle.show.proofs.text.put.Reads as reads
-use Rattle.show.proofs.text.put.Lts as lts
 
 abbrev Inv-loop : tie.InvT-loop
 Inv-loop d₀ at word i₀ d i = (i ≤ length word) × (at + length word ≤ length d₀) × (length d ≡ length d₀) × (d ≡ sets d₀ at (take i word))

@@ -1,5 +1,4 @@
 -- All fields but the count are the picture's own.
-use mathlib.Core.Path.{_≡_}
 use lib.IntN.{ℤ}
 use mir.Val.{SFits}
 use mir.Syntax.{w32}

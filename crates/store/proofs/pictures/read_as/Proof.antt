@@ -1,5 +1,4 @@
 -- Each case is one of the definition's.
-use mathlib.Core.Path.{_≡_, ap, _∙_, sym}
 use borrow.Author.Needs.{needs}
 use Rattle.store.proofs.pictures.read_as.Statement.{statement}
 use Rattle.store.proofs.pictures.read_as.Tie as tie

@@ -1,5 +1,4 @@
 -- The store that is cleared is the one that the words hold.
-use denote.Ref.{now}
 use mathlib.Core.Path.{subst}
 use mathlib.Core.List.{List}
 use Rattle.paper.specs.Calls.{discarded}

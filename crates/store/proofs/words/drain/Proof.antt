@@ -1,5 +1,4 @@
 -- The store that is emptied is the one that the words hold.
-use denote.Ref.{now}
 use mathlib.Core.Path.{subst}
 use mathlib.Core.List.{List}
 use Rattle.paper.specs.Output.{emptied}

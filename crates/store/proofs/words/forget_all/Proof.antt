@@ -1,5 +1,5 @@
 -- Words that are all 0 are a store in normal form, and an empty store is written over them.
-use mathlib.Core.Path.{_≡_, ap, _∙_}
+use mathlib.Core.Path.{ap, _∙_}
 use native.Mathlib.Omega.{arith}
 use Rattle.paper.specs.Words.{table}
 use Rattle.store.specs.Places.{front}

@@ -1,6 +1,5 @@
 -- Each turn writes one picture more; then the places behind them are blanked, and their number is written.
 use Prim.Native.Nat.{_≤_, _-_}
-use denote.Ref.{now}
 use mathlib.Core.Path.{_≡_, _∙_}
 use native.Mathlib.Omega.{arith}
 use Rattle.store.proofs.Saving.{Saved, saved-none, saved-more, saved-all, saved-tidy}

@@ -1,5 +1,5 @@
 -- `free_part`: the two tests of a released surface are the definition's, in its order.
-use mathlib.Core.Path.{_≡_, _∙_, sym, refl}
+use mathlib.Core.Path.{_∙_, sym}
 use Rattle.watch.specs.Book.{view}
 use Rattle.watch.proofs.PartLaws.{flip, flop, free-10, free-11, free-0}
 use borrow.Author.Needs.{needs}

@@ -1,5 +1,5 @@
 -- `hand_part`: the two tests of a picture handed out are the definition's, in its order.
-use mathlib.Core.Path.{_≡_, _∙_, sym, refl}
+use mathlib.Core.Path.{_∙_, sym}
 use Rattle.watch.specs.Book.{view}
 use Rattle.watch.proofs.PartLaws.{flip, flop, hand-6, hand-7, hand-0}
 use borrow.Author.Needs.{needs}

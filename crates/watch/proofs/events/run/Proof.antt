@@ -1,6 +1,6 @@
 -- From here on the events give the part and the lines that all of them give.
 use denote.Ref.{now}
-use Rattle.derivation.proofs.Pad.{is-good, is-view}
+use Rattle.derivation.proofs.Pad.{is-good}
 use Rattle.watch.proofs.PartLaws.{stops, run-stops, run-again, run-ends}
 use Rattle.watch.specs.Events.{eventIn}
 use Rattle.paper.specs.Kinds.{shownWidth}

@@ -1,8 +1,8 @@
 -- The three parts one after the other, up to the first event that is wrong.
 use denote.Ref.{now}
 use native.Mathlib.Omega.{arith}
-use mathlib.Core.Path.{_≡_, _∙_, sym, refl}
-use Rattle.derivation.proofs.Pad.{is-good, is-view}
+use mathlib.Core.Path.{_≡_, _∙_, sym}
+use Rattle.derivation.proofs.Pad.{is-good}
 use Rattle.format.proofs.Ends.{past-count}
 use Rattle.watch.proofs.Bytes.{tail-events}
 use Rattle.watch.proofs.PartLaws.{tells-first, tells-then}

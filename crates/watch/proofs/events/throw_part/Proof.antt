@@ -1,5 +1,5 @@
 -- `throw_part`: the test of a picture thrown away is the definition's.
-use mathlib.Core.Path.{_≡_, _∙_, sym, refl}
+use mathlib.Core.Path.{_∙_, sym}
 use Rattle.watch.specs.Book.{view}
 use Rattle.watch.proofs.PartLaws.{throw-8, throw-0}
 use borrow.Author.Needs.{needs}

@@ -4,7 +4,7 @@ use lib.ListN.{drop}
 use Rattle.paper.specs.Kinds.{restPlace}
 use Rattle.paper.specs.Ledger.{readTail}
 use native.Mathlib.Omega.{arith}
-use mathlib.Core.Path.{_≡_, _∙_, sym, refl}
+use mathlib.Core.Path.{_≡_, _∙_, sym}
 use Rattle.derivation.proofs.Pad.{is-good, is-view}
 use Rattle.watch.proofs.Ways.{abandons-13, abandons-tail, abandons-15, abandons-0}
 use borrow.Author.Needs.{needs}

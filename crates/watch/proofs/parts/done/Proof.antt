@@ -1,6 +1,6 @@
 -- `done`: end of sequence, abandon and the other closing calls have a part each; the kind tells which it is.
 use denote.Ref.{now}
-use mathlib.Core.Path.{_≡_, _∙_, sym, refl}
+use mathlib.Core.Path.{_∙_, sym}
 use Rattle.watch.proofs.Ways.{done-7, done-8, done-else}
 use borrow.Author.Needs.{needs}
 use Rattle.watch.proofs.parts.done.Statement.{statement}

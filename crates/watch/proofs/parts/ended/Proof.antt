@@ -3,7 +3,7 @@ use denote.Ref.{now}
 use lib.ListN.{drop}
 use Rattle.paper.specs.Kinds.{restPlace}
 use Rattle.paper.specs.Ledger.{readTail}
-use mathlib.Core.Path.{_≡_, _∙_, sym, refl}
+use mathlib.Core.Path.{_∙_, sym}
 use Rattle.watch.proofs.Ways.{ends-14, ends-0}
 use borrow.Author.Needs.{needs}
 use Rattle.watch.proofs.parts.ended.Statement.{statement}

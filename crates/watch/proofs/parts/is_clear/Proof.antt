@@ -1,7 +1,7 @@
 -- The three counts and the bit that the test asks for, each read at its place.
 use denote.Ref.{now}
 use native.Mathlib.Omega.{arith}
-use mathlib.Core.Path.{_≡_, _∙_, sym, refl}
+use mathlib.Core.Path.{_∙_}
 use Rattle.format.proofs.Ends.{past-count}
 use Rattle.watch.specs.Book.{view}
 use Rattle.watch.proofs.Ways.{clear-is}

@@ -1,7 +1,7 @@
 -- All three counts are 0.
 use denote.Ref.{now}
 use native.Mathlib.Omega.{arith}
-use mathlib.Core.Path.{_≡_, _∙_, sym, refl}
+use mathlib.Core.Path.{_∙_, sym}
 use Rattle.format.proofs.Ends.{past-count}
 use Rattle.watch.proofs.Bytes.{quiet-tail}
 use borrow.Author.Needs.{needs}

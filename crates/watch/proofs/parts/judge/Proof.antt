@@ -1,8 +1,8 @@
 -- `judge`: a refusal, a begun picture, lists and a closing call are judged each by its function; number and kind tell which it is.
 use denote.Ref.{now}
 use native.Mathlib.Omega.{arith}
-use mathlib.Core.Path.{_≡_, _∙_, sym, refl}
-use Rattle.paper.specs.Numbers.{u8, u16}
+use mathlib.Core.Path.{_≡_}
+use Rattle.paper.specs.Numbers.{u16}
 use Rattle.paper.specs.Kinds.{beginKind, listsKind, replyTo, numberPlace}
 use Rattle.paper.specs.Records.{kindOf}
 use Rattle.watch.proofs.Ways.{judged-refused, judged-listed}

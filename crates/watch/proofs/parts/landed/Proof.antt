@@ -1,7 +1,7 @@
 -- Each way out, in the order of the parts.
 use denote.Ref.{now}
 use native.Mathlib.Omega.{arith}
-use mathlib.Core.Path.{_≡_, _∙_, sym, refl}
+use mathlib.Core.Path.{_≡_}
 use Rattle.derivation.proofs.Pad.{is-good, is-view}
 use Prim.Native.Nat.{_<_, _≤_}
 use Rattle.watch.proofs.Ways.{lands-13, lands-9, lands-tail, lands-15, lands-16, lands-0}

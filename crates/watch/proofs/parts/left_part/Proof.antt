@@ -1,6 +1,6 @@
 -- Each way out, in the order of the parts.
 use denote.Ref.{now}
-use mathlib.Core.Path.{_≡_, _∙_, sym, refl}
+use mathlib.Core.Path.{_∙_, sym}
 use Rattle.watch.specs.Book.{view}
 use Rattle.watch.proofs.PartLaws.{flip, flop}
 use Rattle.watch.proofs.Ways.{left-19, left-12, left-0}

@@ -1,6 +1,6 @@
 -- Each way out, in the order of the parts.
-use mathlib.Core.Path.{_≡_, _∙_, sym, refl}
-use Rattle.derivation.proofs.Pad.{is-good, is-view}
+use mathlib.Core.Path.{_∙_, sym}
+use Rattle.derivation.proofs.Pad.{is-view}
 use Rattle.watch.proofs.Ways.{lists-13, lists-12, lists-0}
 use borrow.Author.Needs.{needs}
 use Rattle.watch.proofs.parts.listed.Statement.{statement}

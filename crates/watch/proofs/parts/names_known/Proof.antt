@@ -1,7 +1,7 @@
 -- The test of the members from here on is the test of all, since all before are known.
 use denote.Ref.{now}
 use native.Mathlib.Omega.{arith}
-use mathlib.Core.Path.{_≡_, _∙_, sym, refl}
+use mathlib.Core.Path.{_≡_, _∙_, sym}
 use Rattle.watch.specs.Book.{view}
 use lib.ListN.{drop}
 use Prim.Native.Nat.{suc, _+_, _-_, _*_, _≤_}

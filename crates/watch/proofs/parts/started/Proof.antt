@@ -1,7 +1,7 @@
 -- Each way out, in the order of the parts.
 use denote.Ref.{now}
 use native.Mathlib.Omega.{arith}
-use mathlib.Core.Path.{_≡_, _∙_, sym, refl}
+use mathlib.Core.Path.{_≡_, _∙_, sym}
 use Rattle.derivation.proofs.Pad.{is-good}
 use Rattle.watch.proofs.PartLaws.{flip, flop}
 use Rattle.watch.proofs.Ways.{begins-3, begins-4, begins-5, begins-tail, begins-left, begins-0}

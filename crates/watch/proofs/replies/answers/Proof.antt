@@ -1,8 +1,8 @@
 -- `answers`: a refusal and an accepted reply have a test each, and the refusal number tells which it is.
 use denote.Ref.{now}
 use native.Mathlib.Omega.{arith}
-use mathlib.Core.Path.{_≡_, _∙_, sym, refl}
-use Rattle.paper.specs.Numbers.{u8, u16}
+use mathlib.Core.Path.{_≡_, _∙_, sym}
+use Rattle.paper.specs.Numbers.{u16}
 use Rattle.paper.specs.Kinds.{numberPlace}
 use Rattle.watch.proofs.ReplyLaws.{heard-refused, heard-else}
 use borrow.Author.Needs.{needs}

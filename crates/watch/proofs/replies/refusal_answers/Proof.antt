@@ -1,8 +1,8 @@
 -- `refusal_answers`: number 13 has a kind of its own, every other number the record's; one test for each.
 use denote.Ref.{now}
 use native.Mathlib.Omega.{arith}
-use mathlib.Core.Path.{_≡_, _∙_, sym, refl}
-use Rattle.paper.specs.Numbers.{u8, u16}
+use mathlib.Core.Path.{_≡_}
+use Rattle.paper.specs.Numbers.{u16}
 use Rattle.paper.specs.Kinds.{numberPlace}
 use borrow.Author.Tests.{ne-eqb}
 use borrow.Author.Needs.{needs}

@@ -1,8 +1,8 @@
 -- `tally_of`: only an accepted reply tells something, a lists reply one list, another its tail; number and kind tell which it is.
 use denote.Ref.{now}
 use native.Mathlib.Omega.{arith}
-use mathlib.Core.Path.{_≡_, _∙_, sym, refl}
-use Rattle.paper.specs.Numbers.{u8, u16}
+use mathlib.Core.Path.{_≡_, _∙_}
+use Rattle.paper.specs.Numbers.{u16}
 use Rattle.paper.specs.Kinds.{listsKind, replyTo, numberPlace, shownWidth}
 use Rattle.paper.specs.Records.{kindOf}
 use Prim.Native.Nat.{_≤_}
