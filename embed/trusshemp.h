@@ -17,10 +17,10 @@ extern "C" {
 #endif
 
 /* How many words a session takes, beside its sets and its store, of its sets and of its store, and how many bytes. */
-#define TRUSSHEMP_HEAD_WORDS 23
+#define TRUSSHEMP_FRONT_WORDS 23
 #define TRUSSHEMP_SETS_WORDS 16
 #define TRUSSHEMP_STORE_WORDS 97
-#define TRUSSHEMP_SESSION_SIZE (4 * (TRUSSHEMP_HEAD_WORDS + TRUSSHEMP_SETS_WORDS + TRUSSHEMP_STORE_WORDS))
+#define TRUSSHEMP_SESSION_SIZE (4 * (TRUSSHEMP_FRONT_WORDS + TRUSSHEMP_SETS_WORDS + TRUSSHEMP_STORE_WORDS))
 
 /* The least reply buffer, and the largest record (head and body), in bytes. */
 #define TRUSSHEMP_REPLY 512
@@ -29,7 +29,7 @@ extern "C" {
 /* One session. It holds no pointer: it may be copied, moved, written to a file and read again. What the words hold is
  * no promise of this header. */
 typedef struct {
-    uint32_t head[TRUSSHEMP_HEAD_WORDS];
+    uint32_t front[TRUSSHEMP_FRONT_WORDS];
     uint32_t sets[TRUSSHEMP_SETS_WORDS];
     uint32_t store[TRUSSHEMP_STORE_WORDS];
 } trusshemp_session;
@@ -39,14 +39,14 @@ size_t trusshemp_session_size(void);
 
 /* What the archive exports: the three parts of a session are lent apart. The two functions behind them are the ones to
  * call. */
-void trusshemp_fresh_in(uint32_t *head, uint32_t *sets, uint32_t *store);
-uint16_t trusshemp_step_in(uint32_t *head, uint32_t *sets, uint32_t *store, const uint8_t *record, size_t record_length,
+void trusshemp_fresh_in(uint32_t *front, uint32_t *sets, uint32_t *store);
+uint16_t trusshemp_step_in(uint32_t *front, uint32_t *sets, uint32_t *store, const uint8_t *record, size_t record_length,
                            uint8_t *reply, size_t reply_length, size_t *length);
 
 /* Makes the session fresh, whatever it held. */
 static inline void trusshemp_fresh(trusshemp_session *session)
 {
-    trusshemp_fresh_in(session->head, session->sets, session->store);
+    trusshemp_fresh_in(session->front, session->sets, session->store);
 }
 
 /* One call: the record at `record` gets its reply in the buffer at `reply`. The answer is the refusal number, 0 when
@@ -56,7 +56,7 @@ static inline void trusshemp_fresh(trusshemp_session *session)
 static inline uint16_t trusshemp_step(trusshemp_session *session, const uint8_t *record, size_t record_length,
                                       uint8_t *reply, size_t reply_length, size_t *length)
 {
-    return trusshemp_step_in(session->head, session->sets, session->store, record, record_length, reply, reply_length,
+    return trusshemp_step_in(session->front, session->sets, session->store, record, record_length, reply, reply_length,
                              length);
 }
 

@@ -1,4 +1,4 @@
--- The ranges of a begin record are those of its head and those of its entries: the same tests in another order.
+-- The ranges of a begin record are those of its fields and those of its entries: the same tests in another order.
 use mathlib.Core.Path.{_≡_, refl}
 use mathlib.Core.Bool.{Bool, true, false, not, _&&_, _||_}
 use Prim.Native.Nat.{ℕ}
@@ -8,7 +8,7 @@ use Rattle.paper.specs.Nal.{taken, irap, idr}
 use Rattle.paper.specs.Words.{allB}
 use Rattle.paper.specs.Records.{Fields}
 use Rattle.paper.specs.Ranges.{beginRanges, entriesOf, longOk, falling, rising}
-use Rattle.derivation.specs.Heads.{headRanges}
+use Rattle.derivation.specs.FieldRanges.{fieldRanges}
 
 order : (x l e f r i : Bool) → (x && l && e && f && r && i) ≡ (x && e && i && (l && (f && r)))
 order false l e f r i = refl
@@ -26,8 +26,8 @@ order true true true true false true = refl
 order true true true true true false = refl
 order true true true true true true = refl
 
-pub ranges-split : (M : ℕ) (f : Fields) → beginRanges M f ≡ (headRanges M (f .nal) (f .tid) (f .flags) (f .lsb) (entriesOf f) && (allB (longOk M) (f .lt) && (falling (pos 0) (f .neg) && rising (pos 0) (f .pos))))
-unfolding beginRanges headRanges
+pub ranges-split : (M : ℕ) (f : Fields) → beginRanges M f ≡ (fieldRanges M (f .nal) (f .tid) (f .flags) (f .lsb) (entriesOf f) && (allB (longOk M) (f .lt) && (falling (pos 0) (f .neg) && rising (pos 0) (f .pos))))
+unfolding beginRanges fieldRanges
 ranges-split M f =
     order
     (taken (f .nal) && leb (f .tid) 6 && (not (irap (f .nal)) || eqb (f .tid) 0) && ltb (f .flags) 4 && ltb (f .lsb) M)

@@ -1,5 +1,5 @@
 pub mod Pad
 pub mod Classes
 pub mod Answers
-pub mod Heads
+pub mod FieldRanges
 pub mod Lists

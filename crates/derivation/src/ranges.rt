@@ -14,7 +14,7 @@ ghost use lib.IntN.{pos, negsuc};
 ghost use lib.Signed.{ltZ, leZ};
 ghost use Rattle.paper.specs.State.{taken16};
 ghost use Rattle.paper.specs.Ranges.{configureRanges, longOk};
-ghost use Rattle.derivation.specs.Heads.{headRanges};
+ghost use Rattle.derivation.specs.FieldRanges.{fieldRanges};
 
 // The limits as they are taken: "more than 16 is taken as 16".
 pub fn taken_limits(l: Limits) -> Limits
@@ -44,10 +44,10 @@ pub fn configure_ranges(l: Limits) -> bool
         & (l.reorder < l.buffering)
 }
 
-// Whether a begin record's head, with n entries behind it, is in range: "Temporal id 0 to 6, and 0 for types 16 to 21",
-// "neg + pos + lt at most 16", "Types 19 and 20: lsb and counts 0".
-pub fn head_ranges(k: u8, t: u8, tid: u8, flags: u8, lsb: u16, n: usize) -> bool
-    ensures { λ r. ⌜ r ≡ headRanges (2 ^ (min k 16)) t tid flags lsb n ⌝ }
+// Whether a begin record's fields, with n entries behind them, are in range: "Temporal id 0 to 6, and 0 for types 16 to
+// 21", "neg + pos + lt at most 16", "Types 19 and 20: lsb and counts 0".
+pub fn field_ranges(k: u8, t: u8, tid: u8, flags: u8, lsb: u16, n: usize) -> bool
+    ensures { λ r. ⌜ r ≡ fieldRanges (2 ^ (min k 16)) t tid flags lsb n ⌝ }
 {
     let layer = !nal::is_irap(t) | (tid == 0);
     let start = !nal::is_idr(t) | ((lsb == 0) & (n == 0));

@@ -44,10 +44,10 @@ fn own_count(own: bool) -> usize
 }
 
 // How many candidates a list has: the members of the three sets, and the current picture if it is one.
-pub fn candidate_count(run: &[u32; CAPACITY], refs: Refs, own: bool) -> usize
-    ensures { λ r. ⌜ CandidateCount (refsIn (now (run .entry)) refs) own r ⌝ }
+pub fn candidate_count(sets: &[u32; CAPACITY], refs: Refs, own: bool) -> usize
+    ensures { λ r. ⌜ CandidateCount (refsIn (now (sets .entry)) refs) own r ⌝ }
 {
-    members::count_run(*run);
+    members::count_sets(*sets);
     member_count(refs) + own_count(own)
 }
 
@@ -113,15 +113,15 @@ fn stands(refs: Refs, second: bool, i: usize) -> usize
 }
 
 // The candidate of list 0, or of list 1 (`second`), at a place; behind the members stands the current picture.
-fn candidate(run: &[u32; CAPACITY], refs: Refs, second: bool, c: Serial, i: usize) -> Serial
-    ensures { λ r. ⌜ StandsAt (refsIn (now (run .entry)) refs) second c i r ⌝ }
+fn candidate(sets: &[u32; CAPACITY], refs: Refs, second: bool, c: Serial, i: usize) -> Serial
+    ensures { λ r. ⌜ StandsAt (refsIn (now (sets .entry)) refs) second c i r ⌝ }
 {
-    members::count_run(*run);
+    members::count_sets(*sets);
     let at = stands(refs, second, i);
     if member_count(refs) <= at {
         return c;
     }
-    members::member(run, at)
+    members::member(sets, at)
 }
 
 // Which candidate stands at place j: "place j is candidate j mod n; with the modify bit it is the candidate at the
@@ -155,7 +155,7 @@ fn can_fill(n: usize, active: usize, modify: bool, bytes: usize) -> bool
 // The places of a list: "With n candidates, place j is candidate j mod n; with the modify bit it is the candidate at
 // the entry byte".
 fn places(
-    run: &[u32; CAPACITY],
+    sets: &[u32; CAPACITY],
     refs: Refs,
     c: Serial,
     n: usize,
@@ -167,14 +167,14 @@ fn places(
     requires { ⌜ canFill n active modify (length (now entries)) ≡ true ⌝ }
     ensures { λ r. ⌜ ((own : Bool)
         → HoldsList r
-        (table (placeOf (candidatesOf (refsIn (now (run .entry)) refs) own second c) c modify
+        (table (placeOf (candidatesOf (refsIn (now (sets .entry)) refs) own second c) c modify
         (now (entries .entry)) n) active)) × (r .len ≡ active) ⌝ }
 {
     let blank = Serial(0);
     let mut items = [blank; CAPACITY];
     let mut j: usize = 0;
     while j < active {
-        items[j] = candidate(run, refs, second, c, which(modify, entries, j, n));
+        items[j] = candidate(sets, refs, second, c, which(modify, entries, j, n));
         j += 1;
     }
     RefList { items, len: active }
@@ -183,7 +183,7 @@ fn places(
 // A reference list (8.3.4): list 0, or list 1 (`second`); `last`: it has the current picture in its last active place.
 // It has no place where the candidates cannot fill it.
 pub fn build_ref_pic_list(
-    run: &[u32; CAPACITY],
+    sets: &[u32; CAPACITY],
     refs: Refs,
     c: Serial,
     own: bool,
@@ -194,13 +194,13 @@ pub fn build_ref_pic_list(
     entries: &[u8],
 ) -> RefList
     ensures { λ r. ⌜ HoldsList r
-        (builtOf (refsIn (now (run .entry)) refs) c own second last active modify (now (entries .entry))) ⌝ }
+        (builtOf (refsIn (now (sets .entry)) refs) c own second last active modify (now (entries .entry))) ⌝ }
 {
-    let n = candidate_count(run, refs, own);
+    let n = candidate_count(sets, refs, own);
     if !can_fill(n, active as usize, modify, entries.len()) {
         return no_list();
     }
-    let mut l = places(run, refs, c, n, second, active as usize, modify, entries);
+    let mut l = places(sets, refs, c, n, second, active as usize, modify, entries);
     if last {
         let at = l.len - 1;
         l.items[at] = c;

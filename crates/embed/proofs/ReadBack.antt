@@ -27,11 +27,11 @@ use Rattle.derivation.specs.declared.ref_lists.Refs.{Refs}
 use Rattle.derivation.specs.Lists.{refsIn}
 use Rattle.derivation.proofs.Runs.{refs-are}
 use Rattle.wire.proofs.Flat.{length-flat}
-use Rattle.store.specs.Shelf.{word, pictureAt, pictureWords, stored}
-use Rattle.store.proofs.Shelf.{flag-back, own-words}
+use Rattle.store.specs.StoreWords.{word, pictureAt, pictureWords, stored}
+use Rattle.store.proofs.StoreWords.{flag-back, own-words}
 use Rattle.session.specs.View.{Front, frontIn, limitsAt, prevAt, nowAt, refsAt, sessionOf, sessionIn}
-use Rattle.embed.specs.Layout.{filled, placesOf, setsOf, memoryOf, LimitsFit, PrevFits, NowFits, PocsFit, Fitting}
-use Rattle.session.specs.Laid.{limitsWords, prevWords, nowWords, sizeWords, headWords, sizesOf, frontOf, headOf}
+use Rattle.embed.specs.Layout.{filled, storeWordsOf, setsOf, memoryOf, LimitsFit, PrevFits, NowFits, PocsFit, Fitting}
+use Rattle.session.specs.Laid.{limitsWords, prevWords, nowWords, sizeWords, frontWords, sizesOf, frontOf, frontWordsOf}
 
 -- ---- lists by their elements
 
@@ -69,8 +69,8 @@ module _ (ps : List Picture) (room : length ps ≤ 16) (fits : PocsFit ps) where
   rows-length : length (flat pictureWords ps) ≡ 6 * length ps
   rows-length = length-flat pictureWords 6 (λ p. refl) ps
 
-  places-word : (i j : ℕ) → i < length ps → j < 6 → word (placesOf ps) (6 * i + j) ≡ word (pictureWords (getD ps i blank)) j
-  places-word i j li lj =
+  store-word : (i j : ℕ) → i < length ps → j < 6 → word (storeWordsOf ps) (6 * i + j) ≡ word (pictureWords (getD ps i blank)) j
+  store-word i j li lj =
       let n = rows-length in
       let l : 6 * i + j < length (flat pictureWords ps) = omega arith in
       let f : length (filled 96 (flat pictureWords ps)) ≡ 96 = filled-length 96 (flat pictureWords ps) (omega arith) in
@@ -78,24 +78,24 @@ module _ (ps : List Picture) (room : length ps ≤ 16) (fits : PocsFit ps) where
       ∙ List·getD-append (flat pictureWords ps) (replicate (96 - length (flat pictureWords ps)) 0) 0 (6 * i + j) l
       ∙ row-word pictureWords 6 (λ p. refl) blank ps i j li lj
 
-  count-back : word (placesOf ps) 96 ≡ length ps
+  count-back : word (storeWordsOf ps) 96 ≡ length ps
   count-back =
       let n = rows-length in
       let f : 96 ≡ length (filled 96 (flat pictureWords ps)) + 0 = omega (arith, filled-length 96 (flat pictureWords ps) (omega arith)) in
-      ap (word (placesOf ps)) f ∙ getD-append-add (filled 96 (flat pictureWords ps)) (length ps ∷ []) 0 0
+      ap (word (storeWordsOf ps)) f ∙ getD-append-add (filled 96 (flat pictureWords ps)) (length ps ∷ []) 0 0
 
-  picture-back : (i : ℕ) → i < length ps → pictureAt (placesOf ps) i ≡ getD ps i blank
+  picture-back : (i : ℕ) → i < length ps → pictureAt (storeWordsOf ps) i ≡ getD ps i blank
   unfolding pictureAt
   picture-back i li =
       let z : 6 * i ≡ 6 * i + 0 = omega arith in
-      let w0 : word (placesOf ps) (6 * i) ≡ getD ps i blank .serial .0 = ap (word (placesOf ps)) z ∙ places-word i 0 li (omega arith) in
-      rw (w0, places-word i 1 li (omega arith), places-word i 2 li (omega arith), places-word i 3 li (omega arith), places-word i 4 li (omega arith), places-word i 5 li (omega arith))
+      let w0 : word (storeWordsOf ps) (6 * i) ≡ getD ps i blank .serial .0 = ap (word (storeWordsOf ps)) z ∙ store-word i 0 li (omega arith) in
+      rw (w0, store-word i 1 li (omega arith), store-word i 2 li (omega arith), store-word i 3 li (omega arith), store-word i 4 li (omega arith), store-word i 5 li (omega arith))
       (own-words (getD ps i blank) (poc-fits ps i fits li))
 
-  pub stored-back : stored (placesOf ps) ≡ ps
+  pub stored-back : stored (storeWordsOf ps) ≡ ps
   stored-back =
-      let n : min (word (placesOf ps) 96) 16 ≡ length ps = omega (arith, count-back) in
-      ap (table (pictureAt (placesOf ps))) n ∙ table-is blank (pictureAt (placesOf ps)) ps (length ps) (omega arith) picture-back ∙ take-length ps
+      let n : min (word (storeWordsOf ps) 96) 16 ≡ length ps = omega (arith, count-back) in
+      ap (table (pictureAt (storeWordsOf ps))) n ∙ table-is blank (pictureAt (storeWordsOf ps)) ps (length ps) (omega arith) picture-back ∙ take-length ps
 
 -- ---- the sets
 
@@ -136,8 +136,8 @@ limits-back : (l : Limits) → LimitsFit l → limitsAt (replicate 4 0 ++ limits
 limits-back l f = rw (mod-eq-of-lt (f .k), mod-eq-of-lt (f .capacity), mod-eq-of-lt (f .buffering), mod-eq-of-lt (f .reorder), mod-eq-of-lt (f .latency))
 
 module _ (s : P.Session) (f : Fitting s) where
-  front-back : frontIn (headOf s) ≡ frontOf s
-  unfolding frontIn headWords
+  front-back : frontIn (frontWordsOf s) ≡ frontOf s
+  unfolding frontIn frontWords
   front-back =
       λ i.
       record {
@@ -155,7 +155,7 @@ module _ (s : P.Session) (f : Fitting s) where
   pub round-trip : sessionIn (memoryOf s) ≡ s
   unfolding memoryOf
   round-trip =
-      ap (λ (x : Front). sessionOf x (setsOf (s .refs)) (placesOf (s .store))) front-back
+      ap (λ (x : Front). sessionOf x (setsOf (s .refs)) (storeWordsOf (s .store))) front-back
       ∙ λ i.
       record {
         configured = s .configured;

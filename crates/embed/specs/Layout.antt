@@ -15,9 +15,9 @@ use Rattle.paper.specs.declared.Prev.the-variants as Prev
 use Rattle.paper.specs.declared.Current.{Current}
 use Rattle.paper.specs.declared.Now.{Now}
 use Rattle.paper.specs.declared.Now.the-variants as Now
-use Rattle.store.specs.Shelf.{pictureWords}
+use Rattle.store.specs.StoreWords.{pictureWords}
 use Rattle.session.specs.View.{Memory, memory}
-use Rattle.session.specs.Laid.{headOf}
+use Rattle.session.specs.Laid.{frontWordsOf}
 
 -- zeros behind a run, up to n words
 abbrev pub filled : ℕ → List ℕ → List ℕ
@@ -26,8 +26,8 @@ filled n xs = xs ++ replicate (n - length xs) 0
 -- ---- the store and the sets
 
 -- sixteen places of six words, and behind them how many are used
-abbrev pub placesOf : List Picture → List ℕ
-placesOf ps = filled 96 (flat pictureWords ps) ++ (length ps ∷ [])
+abbrev pub storeWordsOf : List Picture → List ℕ
+storeWordsOf ps = filled 96 (flat pictureWords ps) ++ (length ps ∷ [])
 
 -- the members of the three sets, one set behind the other
 abbrev pub setsOf : P.Refs → List ℕ
@@ -35,7 +35,7 @@ setsOf x = filled 16 (serialNos (allRefs x))
 
 -- the memory that stands for a session
 unfoldable pub memoryOf : P.Session → Memory
-memoryOf s = memory (headOf s) (setsOf (s .refs)) (placesOf (s .store))
+memoryOf s = memory (frontWordsOf s) (setsOf (s .refs)) (storeWordsOf (s .store))
 
 -- ---- the sessions that are read back: each number fits in the bits that are read of its word
 

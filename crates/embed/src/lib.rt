@@ -8,7 +8,7 @@ ghost use Rattle.paper.specs.State.{fresh as freshSession};
 ghost use Rattle.session.specs.View.{memory, sessionIn};
 ghost use Rattle.session.specs.Laid.{NormalMemory};
 ghost use Rattle.embed.specs.Lent.{words, Stepped};
-use session::HEAD;
+use session::FRONT;
 use store::Store;
 
 // How many bytes a session takes: the words beside the sets and the store, those of the sets and those of the store.
@@ -16,40 +16,40 @@ use store::Store;
 pub extern "C" fn trusshemp_session_size() -> usize
     ensures { λ r. ⌜ r ≡ 4 * words ⌝ }
 {
-    4 * (HEAD + Store::CAPACITY + Store::WORDS)
+    4 * (FRONT + Store::CAPACITY + Store::WORDS)
 }
 
 // Makes the memory a fresh session, whatever it held.
 #[no_mangle]
 pub extern "C" fn trusshemp_fresh_in(
-    head: &mut [u32; HEAD],
+    front: &mut [u32; FRONT],
     sets: &mut [u32; Store::CAPACITY],
-    places: &mut [u32; Store::WORDS],
+    store: &mut [u32; Store::WORDS],
 )
     ensures session { λ _. ⌜ sessionIn
-        (memory (now (head .exit)) (now (sets .exit)) (now (places .exit))) ≡ freshSession ⌝ }
-    ensures normal { λ _. ⌜ NormalMemory (memory (now (head .exit)) (now (sets .exit)) (now (places .exit))) ⌝ }
+        (memory (now (front .exit)) (now (sets .exit)) (now (store .exit))) ≡ freshSession ⌝ }
+    ensures normal { λ _. ⌜ NormalMemory (memory (now (front .exit)) (now (sets .exit)) (now (store .exit))) ⌝ }
     ensures blank { λ _. ⌜ now (sets .exit) ≡ replicate 16 0 ⌝ }
 {
-    session::fresh(head, sets, places);
+    session::fresh(front, sets, store);
 }
 
 // One call: the record gets its reply, `length` the reply's length in bytes, and the answer is the refusal number, 0
 // when accepted. A refused record leaves the memory as it was.
 #[no_mangle]
 pub extern "C" fn trusshemp_step_in(
-    head: &mut [u32; HEAD],
+    front: &mut [u32; FRONT],
     sets: &mut [u32; Store::CAPACITY],
-    places: &mut [u32; Store::WORDS],
+    store: &mut [u32; Store::WORDS],
     msg: &[u8],
     reply: &mut [u8],
     length: &mut usize,
 ) -> u16
-    ensures { λ r. ⌜ Stepped (memory (now (head .entry)) (now (sets .entry)) (now (places .entry))) (now (msg .entry))
-        (now (reply .entry)) r (now (length .exit)) (memory (now (head .exit)) (now (sets .exit)) (now (places .exit)))
+    ensures { λ r. ⌜ Stepped (memory (now (front .entry)) (now (sets .entry)) (now (store .entry))) (now (msg .entry))
+        (now (reply .entry)) r (now (length .exit)) (memory (now (front .exit)) (now (sets .exit)) (now (store .exit)))
         (now (reply .exit)) ⌝ }
 {
-    let a = session::step(head, sets, places, msg, reply);
+    let a = session::step(front, sets, store, msg, reply);
     *length = a.len;
     a.number
 }

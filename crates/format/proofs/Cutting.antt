@@ -1,4 +1,4 @@
--- Heads leave one way to cut a file: each says how long the first is, and what is behind it is cut the same way.
+-- FieldRanges leave one way to cut a file: each says how long the first is, and what is behind it is cut the same way.
 use Prim.Native.Nat.{ℕ, zero, suc, _+_, _*_, _≤_, _<_}
 use mathlib.Core.Path.{_≡_, refl, sym, ap, ap₂, _∙_}
 use mathlib.Core.List.{List, [], _∷_, _++_, append-assoc, append-nil}

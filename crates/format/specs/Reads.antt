@@ -4,28 +4,28 @@ use mathlib.Core.Path.{_≡_}
 use mathlib.Core.List.{List}
 use mathlib.Core.Bool.{cond}
 use Rattle.paper.specs.Numbers.{u8, u16, u32, aSurface}
-use Rattle.paper.specs.Kinds.{surfacePlace}
+use Rattle.paper.specs.Kinds.{nalPlace, tidPlace, beginFlagsPlace, lsbPlace, surfacePlace, negPlace, posPlace, ltPlace}
 use Rattle.paper.specs.Records.{ListAsk, Slice, kindOf, wellFormed}
-use Rattle.format.specs.declared.records.Head.{Head}
+use Rattle.format.specs.declared.records.BeginFields.{BeginFields}
 use Rattle.format.specs.declared.records.Ask.{Ask}
-use Rattle.format.specs.declared.records.SliceHead.{SliceHead}
+use Rattle.format.specs.declared.records.SliceFields.{SliceFields}
 
 -- the kind of a well-formed record, else 0
 unfoldable pub kindIn : List ℕ → ℕ
 kindIn r = cond (wellFormed r) (kindOf r) 0
 
 -- the fields of a begin before its entries
-abbrev pub headOf : List ℕ → Head
-headOf r =
+abbrev pub beginFields : List ℕ → BeginFields
+beginFields r =
     record {
-      nal = u8 r 4;
-      tid = u8 r 5;
-      flags = u8 r 6;
-      lsb = u16 r 7;
+      nal = u8 r nalPlace;
+      tid = u8 r tidPlace;
+      flags = u8 r beginFlagsPlace;
+      lsb = u16 r lsbPlace;
       surface = aSurface (u32 r surfacePlace);
-      neg = u8 r 13;
-      pos = u8 r 14;
-      lt = u8 r 15;
+      neg = u8 r negPlace;
+      pos = u8 r posPlace;
+      lt = u8 r ltPlace;
     }
 
 -- what was read of a lists record is what it says: of one list, but for its entry bytes, and before the entry bytes of both
@@ -34,7 +34,7 @@ pub record AsksAs (a : Ask) (x : ListAsk) : Type 0 where
   pub active : a .active ≡ x .active
   pub modify : a .modify ≡ x .modify
 
-pub record ReadsAs (h : SliceHead) (f : Slice) : Type 0 where
+pub record ReadsAs (h : SliceFields) (f : Slice) : Type 0 where
   pub slice : h .slice ≡ f .sliceType
   pub flags : h .flags ≡ f .flags
   pub own : h .own ≡ f .own

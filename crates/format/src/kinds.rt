@@ -70,8 +70,64 @@ pub const SHOWN_SURFACE: usize = WORD;
 
 pub const SHOWN_POC: usize = 2 * WORD;
 
-// A begin names its surface behind "NAL type u8, temporal id u8, flags u8, lsb u16".
-pub const SURFACE_PLACE: usize = BODY_PLACE + 5;
+// A configure: "k u8, capacity u8, buffering u8, reorder u8, latency u16".
+pub const K_PLACE: usize = BODY_PLACE;
+
+pub const CAPACITY_PLACE: usize = K_PLACE + 1;
+
+pub const BUFFERING_PLACE: usize = CAPACITY_PLACE + 1;
+
+pub const REORDER_PLACE: usize = BUFFERING_PLACE + 1;
+
+pub const LATENCY_PLACE: usize = REORDER_PLACE + 1;
+
+pub const CONFIGURE_LENGTH: usize = 6;
+
+// A begin: "NAL type u8, temporal id u8, flags u8, lsb u16, surface u32, counts neg, pos, lt u8 each", and the entries
+// behind them.
+pub const NAL_PLACE: usize = BODY_PLACE;
+
+pub const TID_PLACE: usize = NAL_PLACE + 1;
+
+pub const BEGIN_FLAGS_PLACE: usize = TID_PLACE + 1;
+
+pub const LSB_PLACE: usize = BEGIN_FLAGS_PLACE + 1;
+
+pub const SURFACE_PLACE: usize = LSB_PLACE + 2;
+
+pub const NEG_PLACE: usize = SURFACE_PLACE + WORD;
+
+pub const POS_PLACE: usize = NEG_PLACE + 1;
+
+pub const LT_PLACE: usize = POS_PLACE + 1;
+
+pub const ENTRIES_PLACE: usize = LT_PLACE + 1;
+
+pub const BEGIN_LENGTH: usize = 12;
+
+// An entry, "delta i32, used u8" or "lsb u16, flags u8, cycle u32": where its parts stand in it, and its width.
+pub const ENTRY_USED: usize = WORD;
+
+pub const SHORT_WIDTH: usize = ENTRY_USED + 1;
+
+pub const ENTRY_FLAGS: usize = 2;
+
+pub const ENTRY_CYCLE: usize = ENTRY_FLAGS + 1;
+
+pub const LONG_WIDTH: usize = ENTRY_CYCLE + WORD;
+
+// A lists record: "slice type u8, flags u8, a0 u8, a1 u8", and the entry bytes behind them.
+pub const SLICE_PLACE: usize = BODY_PLACE;
+
+pub const SLICE_FLAGS_PLACE: usize = SLICE_PLACE + 1;
+
+pub const ACTIVE0_PLACE: usize = SLICE_FLAGS_PLACE + 1;
+
+pub const ACTIVE1_PLACE: usize = ACTIVE0_PLACE + 1;
+
+pub const ENTRY_BYTES_PLACE: usize = ACTIVE1_PLACE + 1;
+
+pub const SLICE_LENGTH: usize = 4;
 
 // What an accepted begin says: "POC i32, flags u8, .. serial u32, five u8 counts (StCurrBefore, StCurrAfter, StFoll,
 // LtCurr, LtFoll), their members in that order as u32 serials, the tail".

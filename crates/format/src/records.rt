@@ -8,12 +8,13 @@ use wire::flag_bytes;
 ghost use mathlib.Core.Path.{_≡_};
 ghost use Prim.Native.Nat.{_+_, _*_, _≤_, min};
 ghost use Rattle.paper.specs.Numbers.{u8};
+ghost use Rattle.paper.specs.Kinds.{negPlace, posPlace, ltPlace, beginLength, shortWidth, longWidth};
 ghost use Rattle.paper.specs.Records.{kindOf, lengthOf, bodyOk, limitsOf, sliceOf};
 ghost use Rattle.paper.specs.Records.{shortAt, longAt, entries0, entries1};
-ghost use Rattle.format.specs.Reads.{kindIn, headOf, ReadsAs};
+ghost use Rattle.format.specs.Reads.{kindIn, beginFields, ReadsAs};
 
 // The fields of a begin before its entries.
-pub struct Head {
+pub struct BeginFields {
     pub nal: u8,
     pub tid: u8,
     pub flags: u8,
@@ -33,7 +34,7 @@ pub struct Ask {
 
 // What a lists record says before its entry bytes: its slice type, its flags, whether the current picture is itself a
 // candidate, and what it says of list 0 and of list 1.
-pub struct SliceHead {
+pub struct SliceFields {
     pub slice: u8,
     pub flags: u8,
     pub own: bool,
@@ -45,8 +46,8 @@ pub struct SliceHead {
 fn count0(msg: &[u8]) -> usize
     ensures { λ r. ⌜ r ≡ entries0 (now (msg .entry)) ⌝ }
 {
-    if flag_bytes::bit0(wire::byte(msg, 5)) {
-        return wire::byte(msg, 6) as usize;
+    if flag_bytes::bit0(wire::byte(msg, kinds::SLICE_FLAGS_PLACE)) {
+        return wire::byte(msg, kinds::ACTIVE0_PLACE) as usize;
     }
     0
 }
@@ -55,8 +56,8 @@ fn count0(msg: &[u8]) -> usize
 fn count1(msg: &[u8]) -> usize
     ensures { λ r. ⌜ r ≡ entries1 (now (msg .entry)) ⌝ }
 {
-    if flag_bytes::bit1(wire::byte(msg, 5)) {
-        return wire::byte(msg, 7) as usize;
+    if flag_bytes::bit1(wire::byte(msg, kinds::SLICE_FLAGS_PLACE)) {
+        return wire::byte(msg, kinds::ACTIVE1_PLACE) as usize;
     }
     0
 }
@@ -64,12 +65,13 @@ fn count1(msg: &[u8]) -> usize
 // The body length that the counts of a begin call for: 12 bytes, 5 for each short-term and 7 for each long-term entry.
 fn begin_length(msg: &[u8]) -> usize
     ensures { λ r. ⌜ r
-        ≡ 12 + 5 * (u8 (now (msg .entry)) 13 + u8 (now (msg .entry)) 14) + 7 * u8 (now (msg .entry)) 15 ⌝ }
+        ≡ beginLength + shortWidth * (u8 (now (msg .entry)) negPlace + u8 (now (msg .entry)) posPlace)
+        + longWidth * u8 (now (msg .entry)) ltPlace ⌝ }
 {
-    let neg = wire::byte(msg, 13) as usize;
-    let pos = wire::byte(msg, 14) as usize;
-    let lt = wire::byte(msg, 15) as usize;
-    12 + 5 * (neg + pos) + 7 * lt
+    let neg = wire::byte(msg, kinds::NEG_PLACE) as usize;
+    let pos = wire::byte(msg, kinds::POS_PLACE) as usize;
+    let lt = wire::byte(msg, kinds::LT_PLACE) as usize;
+    kinds::BEGIN_LENGTH + kinds::SHORT_WIDTH * (neg + pos) + kinds::LONG_WIDTH * lt
 }
 
 // Whether the body length is what kind and counts call for.
@@ -78,9 +80,9 @@ fn body_ok(msg: &[u8], kind: u16, len: usize) -> bool
     ensures { λ r. ⌜ r ≡ bodyOk (now (msg .entry)) ⌝ }
 {
     match kind {
-        kinds::CONFIGURE => len == 6,
+        kinds::CONFIGURE => len == kinds::CONFIGURE_LENGTH,
         kinds::BEGIN => len == begin_length(msg),
-        kinds::LISTS => len == 4 + count0(msg) + count1(msg),
+        kinds::LISTS => len == kinds::SLICE_LENGTH + count0(msg) + count1(msg),
         kinds::FINISH..=kinds::ABANDON => len == 0,
         _ => false,
     }
@@ -110,28 +112,28 @@ pub fn limits_of(msg: &[u8]) -> Limits
     ensures { λ r. ⌜ r ≡ limitsOf (now (msg .entry)) ⌝ }
 {
     Limits {
-        k: wire::byte(msg, 4),
-        capacity: wire::byte(msg, 5),
-        buffering: wire::byte(msg, 6),
-        reorder: wire::byte(msg, 7),
-        latency: wire::u16_at(msg, 8),
+        k: wire::byte(msg, kinds::K_PLACE),
+        capacity: wire::byte(msg, kinds::CAPACITY_PLACE),
+        buffering: wire::byte(msg, kinds::BUFFERING_PLACE),
+        reorder: wire::byte(msg, kinds::REORDER_PLACE),
+        latency: wire::u16_at(msg, kinds::LATENCY_PLACE),
     }
 }
 
 // The fields of a begin before its entries.
-pub fn head_of(msg: &[u8]) -> Head
-    ensures { λ r. ⌜ r ≡ headOf (now (msg .entry)) ⌝ }
+pub fn begin_fields(msg: &[u8]) -> BeginFields
+    ensures { λ r. ⌜ r ≡ beginFields (now (msg .entry)) ⌝ }
 {
     let surface = Surface(wire::u32_at(msg, kinds::SURFACE_PLACE));
-    Head {
-        nal: wire::byte(msg, 4),
-        tid: wire::byte(msg, 5),
-        flags: wire::byte(msg, 6),
-        lsb: wire::u16_at(msg, 7),
+    BeginFields {
+        nal: wire::byte(msg, kinds::NAL_PLACE),
+        tid: wire::byte(msg, kinds::TID_PLACE),
+        flags: wire::byte(msg, kinds::BEGIN_FLAGS_PLACE),
+        lsb: wire::u16_at(msg, kinds::LSB_PLACE),
         surface,
-        neg: wire::byte(msg, 13),
-        pos: wire::byte(msg, 14),
-        lt: wire::byte(msg, 15),
+        neg: wire::byte(msg, kinds::NEG_PLACE),
+        pos: wire::byte(msg, kinds::POS_PLACE),
+        lt: wire::byte(msg, kinds::LT_PLACE),
     }
 }
 
@@ -156,10 +158,10 @@ fn entry_place(at: usize, width: usize, i: usize) -> usize
 pub fn short_entry(msg: &[u8], at: usize, i: usize) -> ShortEntry
     ensures { λ r. ⌜ r ≡ shortAt (now (msg .entry)) at i ⌝ }
 {
-    let p = entry_place(at, 5, i);
+    let p = entry_place(at, kinds::SHORT_WIDTH, i);
     ShortEntry {
         delta: wire::i32_at(msg, p),
-        used: wire::byte(msg, p + 4),
+        used: wire::byte(msg, p + kinds::ENTRY_USED),
     }
 }
 
@@ -167,31 +169,31 @@ pub fn short_entry(msg: &[u8], at: usize, i: usize) -> ShortEntry
 pub fn long_entry(msg: &[u8], at: usize, i: usize) -> LongEntry
     ensures { λ r. ⌜ r ≡ longAt (now (msg .entry)) at i ⌝ }
 {
-    let p = entry_place(at, 7, i);
+    let p = entry_place(at, kinds::LONG_WIDTH, i);
     LongEntry {
         lsb: wire::u16_at(msg, p),
-        flags: wire::byte(msg, p + 2),
-        cycle: wire::u32_at(msg, p + 3),
+        flags: wire::byte(msg, p + kinds::ENTRY_FLAGS),
+        cycle: wire::u32_at(msg, p + kinds::ENTRY_CYCLE),
     }
 }
 
 // Reads what a lists record says before its entry bytes. A B or a P slice uses list 0, a B slice uses list 1.
-pub fn slice_head(msg: &[u8]) -> SliceHead
+pub fn slice_fields(msg: &[u8]) -> SliceFields
     ensures { λ r. ⌜ ReadsAs r (sliceOf (now (msg .entry))) ⌝ }
 {
-    let slice = wire::byte(msg, 4);
-    let flags = wire::byte(msg, 5);
+    let slice = wire::byte(msg, kinds::SLICE_PLACE);
+    let flags = wire::byte(msg, kinds::SLICE_FLAGS_PLACE);
     let ask0 = Ask {
         uses: slice < 2,
-        active: wire::byte(msg, 6),
+        active: wire::byte(msg, kinds::ACTIVE0_PLACE),
         modify: flag_bytes::bit0(flags),
     };
     let ask1 = Ask {
         uses: slice == 0,
-        active: wire::byte(msg, 7),
+        active: wire::byte(msg, kinds::ACTIVE1_PLACE),
         modify: flag_bytes::bit1(flags),
     };
-    SliceHead {
+    SliceFields {
         slice,
         flags,
         own: flag_bytes::bit2(flags),

@@ -61,9 +61,90 @@ wordWidth = 4
 abbrev pub shownWidth : ℕ
 shownWidth = 3 * wordWidth
 
--- begin: "NAL type u8, temporal id u8, flags u8, lsb u16, surface u32": the place of the surface
+-- configure: "k u8, capacity u8, buffering u8, reorder u8, latency u16"
+abbrev pub kPlace : ℕ
+kPlace = bodyPlace
+
+abbrev pub capacityPlace : ℕ
+capacityPlace = kPlace + 1
+
+abbrev pub bufferingPlace : ℕ
+bufferingPlace = capacityPlace + 1
+
+abbrev pub reorderPlace : ℕ
+reorderPlace = bufferingPlace + 1
+
+abbrev pub latencyPlace : ℕ
+latencyPlace = reorderPlace + 1
+
+abbrev pub configureLength : ℕ
+configureLength = 6
+
+-- begin: "NAL type u8, temporal id u8, flags u8, lsb u16, surface u32, counts neg, pos, lt u8 each": twelve bytes, and the entries behind them
+abbrev pub nalPlace : ℕ
+nalPlace = bodyPlace
+
+abbrev pub tidPlace : ℕ
+tidPlace = nalPlace + 1
+
+abbrev pub beginFlagsPlace : ℕ
+beginFlagsPlace = tidPlace + 1
+
+abbrev pub lsbPlace : ℕ
+lsbPlace = beginFlagsPlace + 1
+
 abbrev pub surfacePlace : ℕ
-surfacePlace = bodyPlace + 5
+surfacePlace = lsbPlace + 2
+
+abbrev pub negPlace : ℕ
+negPlace = surfacePlace + wordWidth
+
+abbrev pub posPlace : ℕ
+posPlace = negPlace + 1
+
+abbrev pub ltPlace : ℕ
+ltPlace = posPlace + 1
+
+abbrev pub entriesPlace : ℕ
+entriesPlace = ltPlace + 1
+
+abbrev pub beginLength : ℕ
+beginLength = 12
+
+-- "then per neg, then per pos: delta i32, used u8; per lt: lsb u16, flags u8, cycle u32": where each part of an entry stands in it, and its width
+abbrev pub entryUsed : ℕ
+entryUsed = wordWidth
+
+abbrev pub shortWidth : ℕ
+shortWidth = entryUsed + 1
+
+abbrev pub entryFlags : ℕ
+entryFlags = 2
+
+abbrev pub entryCycle : ℕ
+entryCycle = entryFlags + 1
+
+abbrev pub longWidth : ℕ
+longWidth = entryCycle + wordWidth
+
+-- lists: "slice type u8, flags u8, a0 u8, a1 u8": four bytes, and the entry bytes behind them
+abbrev pub slicePlace : ℕ
+slicePlace = bodyPlace
+
+abbrev pub sliceFlagsPlace : ℕ
+sliceFlagsPlace = slicePlace + 1
+
+abbrev pub active0Place : ℕ
+active0Place = sliceFlagsPlace + 1
+
+abbrev pub active1Place : ℕ
+active1Place = active0Place + 1
+
+abbrev pub entryBytesPlace : ℕ
+entryBytesPlace = active1Place + 1
+
+abbrev pub sliceLength : ℕ
+sliceLength = 4
 
 -- what an accepted begin says behind its number, from there on: "POC i32, flags u8, .. serial u32, five u8 counts, .. their members in that order
 -- as u32 serials, the tail"

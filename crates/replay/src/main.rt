@@ -2,7 +2,7 @@
 // is there. So the session itself answers 13 to a body over 512 bytes, and a last record that is incomplete gets no
 // reply.
 use session::Answer;
-use session::HEAD;
+use session::FRONT;
 use store::Store;
 use stream::Read;
 ghost use mathlib.Core.Path.{_≡_};
@@ -37,32 +37,32 @@ struct After {
 
 // Answers one record, with the reply behind the `made` bytes of the earlier ones.
 fn reply_to(
-    head: &mut [u32; HEAD],
+    front: &mut [u32; FRONT],
     sets: &mut [u32; Store::CAPACITY],
-    places: &mut [u32; Store::WORDS],
+    store: &mut [u32; Store::WORDS],
     msg: &[u8],
     replies: &mut [u8],
     made: usize,
 ) -> Answer
     requires { ⌜ made + 512 ≤ length (now replies) ⌝ }
-    ensures { λ r. ⌜ Added (memory (now (head .entry)) (now (sets .entry)) (now (places .entry)))
+    ensures { λ r. ⌜ Added (memory (now (front .entry)) (now (sets .entry)) (now (store .entry)))
         (now (msg .entry)) made (now (replies .entry)) r
-        (memory (now (head .exit)) (now (sets .exit)) (now (places .exit))) (now (replies .exit)) ⌝ }
+        (memory (now (front .exit)) (now (sets .exit)) (now (store .exit))) (now (replies .exit)) ⌝ }
 {
-    session::step(head, sets, places, msg, &mut replies[made..])
+    session::step(front, sets, store, msg, &mut replies[made..])
 }
 
 // Answers the whole records at the start of these bytes, one after the other, while there is room for a reply.
 fn answer(
-    head: &mut [u32; HEAD],
+    front: &mut [u32; FRONT],
     sets: &mut [u32; Store::CAPACITY],
-    places: &mut [u32; Store::WORDS],
+    store: &mut [u32; Store::WORDS],
     bytes: &[u8],
     replies: &mut [u8],
 ) -> Answered
     ensures within { λ r. ⌜ (r .taken ≤ length (now (bytes .entry))) × (r .made ≤ length (now (replies .exit))) ⌝ }
-    ensures answers { λ r. ⌜ Answers (memory (now (head .entry)) (now (sets .entry)) (now (places .entry)))
-        (now (bytes .entry)) (memory (now (head .exit)) (now (sets .exit)) (now (places .exit))) (r .taken) (r .made)
+    ensures answers { λ r. ⌜ Answers (memory (now (front .entry)) (now (sets .entry)) (now (store .entry)))
+        (now (bytes .entry)) (memory (now (front .exit)) (now (sets .exit)) (now (store .exit))) (r .taken) (r .made)
         (now (replies .entry)) (now (replies .exit)) ⌝ }
     ensures all { λ r. ⌜ (r .made + 512 ≤ length (now (replies .exit))
         → sizeOf (drop (r .taken) (now (bytes .entry))) ≡ 0) ⌝ }
@@ -75,7 +75,7 @@ fn answer(
             return Answered { taken, made };
         }
         let e = taken + n;
-        let a = reply_to(head, sets, places, &bytes[taken..e], replies, made);
+        let a = reply_to(front, sets, store, &bytes[taken..e], replies, made);
         taken = e;
         made += a.len;
     }
@@ -98,9 +98,9 @@ fn fed(held: usize, r: Read) -> After
 
 // Answers what is whole and writes the replies; reads on only where nothing is whole, so that no reply waits for input.
 fn turn(
-    head: &mut [u32; HEAD],
+    front: &mut [u32; FRONT],
     sets: &mut [u32; Store::CAPACITY],
-    places: &mut [u32; Store::WORDS],
+    store: &mut [u32; Store::WORDS],
     held: usize,
     input: &mut [u8],
     output: &mut [u8],
@@ -108,11 +108,11 @@ fn turn(
     requires { ⌜ held ≤ length (now input) ⌝ }
     requires { ⌜ (65539 ≤ length (now input)) × (512 ≤ length (now output)) ⌝ }
     ensures { λ r. ⌜ r .held ≤ length (now (input .exit)) ⌝ }
-    ensures turned { λ r. ⌜ Turned (memory (now (head .entry)) (now (sets .entry)) (now (places .entry))) held
-        (now (input .entry)) (now (output .entry)) (memory (now (head .exit)) (now (sets .exit)) (now (places .exit))) r
+    ensures turned { λ r. ⌜ Turned (memory (now (front .entry)) (now (sets .entry)) (now (store .entry))) held
+        (now (input .entry)) (now (output .entry)) (memory (now (front .exit)) (now (sets .exit)) (now (store .exit))) r
         (now (input .exit)) (now (output .exit)) ⌝ }
 {
-    let a = answer(head, sets, places, &input[..held], output);
+    let a = answer(front, sets, store, &input[..held], output);
     let taken = a.taken;
     if taken == 0 {
         let r = stream::read_on(0, held, input);
@@ -132,18 +132,18 @@ fn turn(
 
 // Turn after turn from a fresh session. Nothing says that the input ends, so the turns are counted.
 fn run(
-    head: &mut [u32; HEAD],
+    front: &mut [u32; FRONT],
     sets: &mut [u32; Store::CAPACITY],
-    places: &mut [u32; Store::WORDS],
+    store: &mut [u32; Store::WORDS],
     input: &mut [u8],
     output: &mut [u8],
 ) -> After
     requires { ⌜ (65539 ≤ length (now input)) × (512 ≤ length (now output)) ⌝ }
     ensures { λ r. ⌜ Replays
-        (standing (memory (now (head .exit)) (now (sets .exit)) (now (places .exit))) r (now (input .exit))
+        (standing (memory (now (front .exit)) (now (sets .exit)) (now (store .exit))) r (now (input .exit))
         (now (output .exit))) ⌝ }
 {
-    session::fresh(head, sets, places);
+    session::fresh(front, sets, store);
     let mut t = After {
         held: 0,
         made: 0,
@@ -153,7 +153,7 @@ fn run(
     };
     let mut left: u64 = 18446744073709551615;
     while left > 0 {
-        t = turn(head, sets, places, t.held, input, output);
+        t = turn(front, sets, store, t.held, input, output);
         if !t.more {
             return t;
         }
@@ -174,11 +174,11 @@ fn finish(t: After) {
 
 // The session and both buffers are here, of one size for any length of input.
 fn main() {
-    let mut head = [0u32; HEAD];
+    let mut front = [0u32; FRONT];
     let mut sets = [0u32; Store::CAPACITY];
-    let mut places = [0u32; Store::WORDS];
+    let mut store = [0u32; Store::WORDS];
     let mut input = [0u8; INPUT];
     let mut output = [0u8; OUTPUT];
-    let t = run(&mut head, &mut sets, &mut places, &mut input, &mut output);
+    let t = run(&mut front, &mut sets, &mut store, &mut input, &mut output);
     finish(t);
 }

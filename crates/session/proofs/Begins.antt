@@ -48,25 +48,25 @@ use Rattle.session.specs.declared.Answer.{Answer}
 use Rattle.store.specs.declared.Sizes.{Sizes}
 use Rattle.store.specs.declared.Derived.{Derived}
 use Rattle.store.specs.declared.Moved as Store
-use Rattle.format.specs.declared.records.Head.{Head}
+use Rattle.format.specs.declared.records.BeginFields.{BeginFields}
 use Rattle.session.specs.declared.begin.Flags.{Flags}
 use Rattle.session.specs.declared.begin.Start.{Start}
 use Rattle.session.specs.declared.replies.Told.{Told}
-use Rattle.store.specs.Shelf.{word, flagOf, stored}
+use Rattle.store.specs.StoreWords.{word, flagOf, stored}
 use Rattle.store.specs.Places.{front, storedIn}
 use Rattle.store.specs.Tails.{tailIn}
 use Rattle.store.specs.Bumps.{Leaves}
 use Rattle.store.specs.Runs.{wishesIn, wishesWithin, HoldsSets, Derives}
-use Rattle.session.specs.HeadPlaces.{ENDED, NEXT}
-use Rattle.session.specs.Laid.{sizesOf, frontOf, headWords}
+use Rattle.session.specs.FrontPlaces.{ENDED, NEXT}
+use Rattle.session.specs.Laid.{sizesOf, frontOf, frontWords}
 use Rattle.session.specs.Laid as Laid
 use Rattle.session.specs.View.{Memory, memory, sessionIn, sessionOf, Front, frontIn, limitsAt, begunFront}
 use Rattle.session.specs.Said.{Says, Answers, Does}
-use Rattle.format.specs.Reads.{headOf}
+use Rattle.format.specs.Reads.{beginFields}
 use Rattle.session.specs.Parts.{HoldsWishes}
 use Rattle.session.specs.Written.{FewMembers, numbersFrom, memberBytes, begunPart, toldBytes}
 use Rattle.session.specs.Starts.{flagsFrom, prevFrom, currentFrom, toldFrom, refsFrom, Passed, Placed, Wished, Tells}
-use Rattle.store.proofs.Shelf.{table-same, table-map, table-join}
+use Rattle.store.proofs.StoreWords.{table-same, table-map, table-join}
 use Rattle.store.proofs.MarkLaws.{within-room}
 use Rattle.session.proofs.Bytes.{take-table, words-join}
 use Rattle.session.proofs.Entries.{entries-are}
@@ -76,7 +76,7 @@ use Rattle.session.proofs.Saying.{as-decided, tail-held}
 
 -- ---- number 6 and acceptance, behind the other tests
 
-module _ (s : Session) (r : List ℕ) {l : Limits} {h : Head} (p : Passed s r l h) where
+module _ (s : Session) (r : List ℕ) {l : Limits} {h : BeginFields} (p : Passed s r l h) where
   abbrev f : Fields
   f = fieldsOf r
 
@@ -90,7 +90,7 @@ module _ (s : Session) (r : List ℕ) {l : Limits} {h : Head} (p : Passed s r l 
 
 module _ (s : Session) (r : List ℕ) where
   abbrev flagsNow : Flags
-  flagsNow = flagsFrom (s .atStart) (s .ended) (headOf r)
+  flagsNow = flagsFrom (s .atStart) (s .ended) (beginFields r)
 
   abbrev prevNow : Prev
   prevNow = prevFrom (flagsNow .over) (s .prev)
@@ -102,13 +102,13 @@ module _ (s : Session) (r : List ℕ) where
   prev-is : prevFor s (fieldsOf r) ≡ prevNow
   prev-is = ap (λ (b : Bool). prevFrom b (s .prev)) starts-is
 
-  msb-is : msbOf (modulus (s .limits)) prevNow (headOf r .lsb) ≡ msb s (fieldsOf r)
+  msb-is : msbOf (modulus (s .limits)) prevNow (beginFields r .lsb) ≡ msb s (fieldsOf r)
   unfolding msb fieldsOf
-  msb-is = ap (λ (q : Prev). msbOf (modulus (s .limits)) q (headOf r .lsb)) (sym prev-is)
+  msb-is = ap (λ (q : Prev). msbOf (modulus (s .limits)) q (beginFields r .lsb)) (sym prev-is)
 
-  poc-is : pocOf (modulus (s .limits)) prevNow (headOf r .lsb) ≡ poc s (fieldsOf r)
+  poc-is : pocOf (modulus (s .limits)) prevNow (beginFields r .lsb) ≡ poc s (fieldsOf r)
   unfolding poc fieldsOf
-  poc-is = ap (λ (q : Prev). pocOf (modulus (s .limits)) q (headOf r .lsb)) (sym prev-is)
+  poc-is = ap (λ (q : Prev). pocOf (modulus (s .limits)) q (beginFields r .lsb)) (sym prev-is)
 
   poc-outside : (in32 (msb s (fieldsOf r)) && in32 (poc s (fieldsOf r))) ≡ false → within s (fieldsOf r) ≡ false
   unfolding within
@@ -117,11 +117,11 @@ module _ (s : Session) (r : List ℕ) where
 -- ---- step 3
 
 module _ (r : List ℕ) where
-  few-head : (M : ℕ) → beginRanges M (fieldsOf r) ≡ true → headOf r .neg + headOf r .pos + headOf r .lt ≤ 16
-  few-head M e = omega (arith, entries-are r, few-entries M (fieldsOf r) e)
+  few-fields : (M : ℕ) → beginRanges M (fieldsOf r) ≡ true → beginFields r .neg + beginFields r .pos + beginFields r .lt ≤ 16
+  few-fields M e = omega (arith, entries-are r, few-entries M (fieldsOf r) e)
 
-pub few-of : {s : Session} {r : List ℕ} {l : Limits} {h : Head} {t : Start} → Placed s r l h t → h .neg + h .pos + h .lt ≤ 16
-few-of {s} {r} p = subst (λ (x : Head). x .neg + x .pos + x .lt ≤ 16) (sym (p .passed .head)) (few-head r (modulus (s .limits)) (p .passed .ranges))
+pub few-of : {s : Session} {r : List ℕ} {l : Limits} {h : BeginFields} {t : Start} → Placed s r l h t → h .neg + h .pos + h .lt ≤ 16
+few-of {s} {r} p = subst (λ (x : BeginFields). x .neg + x .pos + x .lt ≤ 16) (sym (p .passed .fields)) (few-fields r (modulus (s .limits)) (p .passed .ranges))
 
 -- ---- the reply: the members of the sets in the paper's order
 
@@ -172,10 +172,10 @@ record FlagsAre (s : Session) (r : List ℕ) (t : Start) : Type 0 where
   prior : t .flags .prior ≡ noPrior s (fieldsOf r)
   over : t .flags .over ≡ startsOver s (fieldsOf r)
 
-flags-are : (s : Session) (r : List ℕ) {l : Limits} (h : Head) (t : Start) → Placed s r l h t → FlagsAre s r t
+flags-are : (s : Session) (r : List ℕ) {l : Limits} (h : BeginFields) (t : Start) → Placed s r l h t → FlagsAre s r t
 unfolding noRasl outputFlag noPrior fieldsOf
 flags-are s r h t p =
-    let e : t .flags ≡ flagsFrom (s .atStart) (s .ended) (headOf r) = p .flags ∙ ap (flagsFrom (s .atStart) (s .ended)) (p .passed .head) in
+    let e : t .flags ≡ flagsFrom (s .atStart) (s .ended) (beginFields r) = p .flags ∙ ap (flagsFrom (s .atStart) (s .ended)) (p .passed .fields) in
     record {
       rasl = ap (λ (x : Flags). x .rasl) e;
       output = ap (λ (x : Flags). x .output) e;
@@ -184,7 +184,7 @@ flags-are s r h t p =
       over = ap (λ (x : Flags). x .over) e;
     }
 
-module _ (s : Session) (r : List ℕ) {l : Limits} (h : Head) (t : Start) (ps : List ℤ) (hs : List ℕ) (q : Wished s r l h t ps hs) where
+module _ (s : Session) (r : List ℕ) {l : Limits} (h : BeginFields) (t : Start) (ps : List ℤ) (hs : List ℕ) (q : Wished s r l h t ps hs) where
   abbrev M : ℕ
   M = modulus (s .limits)
 
@@ -218,8 +218,8 @@ module _ (s : Session) (r : List ℕ) {l : Limits} (h : Head) (t : Start) (ps : 
   unfolding begunCurrent fieldsOf
   current-is =
       let k = q .placed in
-      ap (λ (x : Head). currentFrom (s .next) x t) (k .passed .head)
-      ∙ (λ i. record { serial = aSerial (s .next); surface = headOf r .surface; poc = k .poc i; lsb = headOf r .lsb; msb = k .msb i; output = same-flags .output i; valid = same-flags .valid i })
+      ap (λ (x : BeginFields). currentFrom (s .next) x t) (k .passed .fields)
+      ∙ (λ i. record { serial = aSerial (s .next); surface = beginFields r .surface; poc = k .poc i; lsb = beginFields r .lsb; msb = k .msb i; output = same-flags .output i; valid = same-flags .valid i })
 
   told-is : toldBytes (toldFrom (s .next) t) ≡ toldBytes (record { poc = poc s g; flags = flagsByte (begunOf s g); serial = aSerial (s .next) })
   told-is =
@@ -251,9 +251,9 @@ tells h us vs ps p t x {l} {b} {y} {p′} {c} {before} {a} {after} el eb ey k w 
 
 -- ---- a begin that nothing refuses, from what its parts did: the marks and the sets, then the room and the reply, then the words beside the store
 
-module _ (m : Memory) (r : List ℕ) {l : Limits} (h : Head) (t : Start) (ps : List ℤ) (hs : List ℕ) (q : Wished (sessionIn m) r l h t ps hs)
-    (y : Derived) (d : Derives (modulus l) (unmarkedIf (t .flags .over) (stored (m .places))) (wishesWithin ps hs (h .neg) (h .pos) (h .lt)) y)
-    {before : List ℕ} {a : Answer} {p′ after : List ℕ} (w : Tells (m .head) (y .first) (y .second) (storedIn (y .store)) (m .places) t (y .sizes) before a p′ after)
+module _ (m : Memory) (r : List ℕ) {l : Limits} (h : BeginFields) (t : Start) (ps : List ℤ) (hs : List ℕ) (q : Wished (sessionIn m) r l h t ps hs)
+    (y : Derived) (d : Derives (modulus l) (unmarkedIf (t .flags .over) (stored (m .store))) (wishesWithin ps hs (h .neg) (h .pos) (h .lt)) y)
+    {before : List ℕ} {a : Answer} {p′ after : List ℕ} (w : Tells (m .front) (y .first) (y .second) (storedIn (y .store)) (m .store) t (y .sizes) before a p′ after)
     (xs : List ℕ) (n : length xs ≡ 16) (is : serialsIn xs (y .sizes .before + y .sizes .after + y .sizes .long) ≡ membersOf (y .first) (y .sizes .before + y .sizes .after + y .sizes .long))
     (behind : (i : ℕ) → y .sizes .before + y .sizes .after + y .sizes .long ≤ i → word xs i ≡ word (m .sets) i) where
   abbrev x : Sizes
@@ -265,17 +265,17 @@ module _ (m : Memory) (r : List ℕ) {l : Limits} (h : Head) (t : Start) (ps : L
   abbrev fs : Fields
   fs = fieldsOf r
 
-  derived : Derives (modulus (limitsAt (m .head))) (unmarkedIf (t .flags .over) (stored (m .places))) (wishesIn ps hs (h .neg) (h .pos) (h .lt)) y
+  derived : Derives (modulus (limitsAt (m .front))) (unmarkedIf (t .flags .over) (stored (m .store))) (wishesIn ps hs (h .neg) (h .pos) (h .lt)) y
   unfolding frontIn
   derived =
-      subst (λ (z : Limits). Derives (modulus z) (unmarkedIf (t .flags .over) (stored (m .places))) (wishesIn ps hs (h .neg) (h .pos) (h .lt)) y) (q .placed .passed .limits)
-      (subst (λ (z : Wishes). Derives (modulus l) (unmarkedIf (t .flags .over) (stored (m .places))) z y) (within-room ps hs (h .neg) (h .pos) (h .lt) (q .few)) d)
+      subst (λ (z : Limits). Derives (modulus z) (unmarkedIf (t .flags .over) (stored (m .store))) (wishesIn ps hs (h .neg) (h .pos) (h .lt)) y) (q .placed .passed .limits)
+      (subst (λ (z : Wishes). Derives (modulus l) (unmarkedIf (t .flags .over) (stored (m .store))) z y) (within-room ps hs (h .neg) (h .pos) (h .lt) (q .few)) d)
 
   -- the pictures that step 4 marked
-  marked-is : storedIn (y .store) ≡ marksOf (modulus (limitsAt (m .head))) (unmarkedIf (t .flags .over) (stored (m .places))) (wishesIn ps hs (h .neg) (h .pos) (h .lt))
+  marked-is : storedIn (y .store) ≡ marksOf (modulus (limitsAt (m .front))) (unmarkedIf (t .flags .over) (stored (m .store))) (wishesIn ps hs (h .neg) (h .pos) (h .lt))
   marked-is = let k : min (y .store .len) 16 ≡ y .store .len = omega (arith, d .few) in ap (front (y .store .places)) k ∙ derived .pics
 
-  room-made : beforeDecoding (t .flags .over && not (flagOf (word (m .head) ENDED))) (t .flags .prior) (limitsAt (m .head)) (storedIn (y .store)) ≡ roomMade s fs
+  room-made : beforeDecoding (t .flags .over && not (flagOf (word (m .front) ENDED))) (t .flags .prior) (limitsAt (m .front)) (storedIn (y .store)) ≡ roomMade s fs
   unfolding frontIn
   room-made = room-is s r h t ps hs q (storedIn (y .store)) marked-is
 
@@ -283,7 +283,7 @@ module _ (m : Memory) (r : List ℕ) {l : Limits} (h : Head) (t : Start) (ps : L
   unfolding frontIn
   sets-held = subst (HoldsSets (y .first) (y .second) x) (sets-are s r h t ps hs q) (derived .sets)
 
-  body-is : begunPart (toldFrom (word (m .head) NEXT) t) x (y .first) (y .second) ++ tailBytes (beforeDecoding (t .flags .over && not (flagOf (word (m .head) ENDED))) (t .flags .prior) (limitsAt (m .head)) (storedIn (y .store)) .tail)
+  body-is : begunPart (toldFrom (word (m .front) NEXT) t) x (y .first) (y .second) ++ tailBytes (beforeDecoding (t .flags .over && not (flagOf (word (m .front) ENDED))) (t .flags .prior) (limitsAt (m .front)) (storedIn (y .store)) .tail)
       ≡ begunBytes (begunOf s fs) ++ tailBytes (roomMade s fs .tail)
   unfolding frontIn
   body-is = λ i. begun-bytes s r h t ps hs q x sets-held i ++ tailBytes (room-made i .tail)
@@ -296,7 +296,7 @@ module _ (m : Memory) (r : List ℕ) {l : Limits} (h : Head) (t : Start) (ps : L
         bytes = w .says .bytes ∙ (λ i. over (framed (replyTo beginKind) 0 (body-is i)) before);
       }
 
-  next-session : sessionOf (begunFront (frontIn (m .head)) (currentFrom (word (m .head) NEXT) h t) (refsFrom x) (cond (eqb (word (m .head) NEXT) 4294967295) 0 (word (m .head) NEXT + 1))) xs p′ ≡ begunSession s fs
+  next-session : sessionOf (begunFront (frontIn (m .front)) (currentFrom (word (m .front) NEXT) h t) (refsFrom x) (cond (eqb (word (m .front) NEXT) 4294967295) 0 (word (m .front) NEXT + 1))) xs p′ ≡ begunSession s fs
   unfolding frontIn
   next-session =
       λ i.
@@ -319,12 +319,12 @@ module _ (m : Memory) (r : List ℕ) {l : Limits} (h : Head) (t : Start) (ps : L
   members-are-all : length (allRefs (begunSession s fs .refs)) ≡ x .before + x .after + x .long
   members-are-all = let b = sets-held .before in let c = sets-held .after in let l = sets-held .long in simp length-append (omega arith)
 
-  pub begun-does : {h′ : List ℕ} {c : Current} {z : Refs} {k : ℕ} → frontIn h′ ≡ begunFront (frontIn (m .head)) c z k
-      → ((f : Front) → m .head ≡ headWords f → h′ ≡ headWords (begunFront f c z k)) → c ≡ currentFrom (word (m .head) NEXT) h t → z ≡ refsFrom x
-      → k ≡ cond (eqb (word (m .head) NEXT) 4294967295) 0 (word (m .head) NEXT + 1) → Does m (beginOf s fs) before a (memory h′ xs p′) after
+  pub begun-does : {h′ : List ℕ} {c : Current} {z : Refs} {k : ℕ} → frontIn h′ ≡ begunFront (frontIn (m .front)) c z k
+      → ((f : Front) → m .front ≡ frontWords f → h′ ≡ frontWords (begunFront f c z k)) → c ≡ currentFrom (word (m .front) NEXT) h t → z ≡ refsFrom x
+      → k ≡ cond (eqb (word (m .front) NEXT) 4294967295) 0 (word (m .front) NEXT + 1) → Does m (beginOf s fs) before a (memory h′ xs p′) after
   unfolding frontIn
   begun-does e wh ec ey ek =
-      let n = ap (λ (f : Front). sessionOf f xs p′) (e ∙ (λ i. begunFront (frontIn (m .head)) (ec i) (ey i) (ek i))) ∙ next-session in
+      let n = ap (λ (f : Front). sessionOf f xs p′) (e ∙ (λ i. begunFront (frontIn (m .front)) (ec i) (ey i) (ek i))) ∙ next-session in
       as-decided (inside s r (q .placed .passed) (q .within))
       (record {
         answers = answers-are;
@@ -332,11 +332,11 @@ module _ (m : Memory) (r : List ℕ) {l : Limits} (h : Head) (t : Start) (ps : L
         left = λ z. absurd (z refl);
         normal = λ z.
             record {
-              head = wh (frontOf s) (z .head)
-                  ∙ (λ i. headWords (begunFront (frontOf s) ((ec ∙ current-is s r h t ps hs q) i) ((ey ∙ sizes-are) i) ((ek ∙ next-is s r h t ps hs q) i))) ∙ ap Laid.headOf (sym n);
-              places = w .normal (z .places);
+              front = wh (frontOf s) (z .front)
+                  ∙ (λ i. frontWords (begunFront (frontOf s) ((ec ∙ current-is s r h t ps hs q) i) ((ey ∙ sizes-are) i) ((ek ∙ next-is s r h t ps hs q) i))) ∙ ap Laid.frontWordsOf (sym n);
+              store = w .normal (z .store);
             };
-        run = λ i le. behind i (omega (arith, members-are-all));
+        sets = λ i le. behind i (omega (arith, members-are-all));
       })
 
 -- ---- the stages' own facts
@@ -345,7 +345,7 @@ pub fits-back : (z : ℤ) → in32 z ≡ true → toZ w32 (ofZ w32 z) ≡ z
 fits-back z e = toZ-ofZ (record { sfits = ltb-true (mag z) (2 ^ 31) e })
 
 -- the wishes that were read are the paper's, or one is outside as the paper's is
-module _ (s : Session) (r : List ℕ) {l : Limits} (h : Head) (t : Start) (p : Placed s r l h t) {b : Bool} {ps : List ℤ} {hs : List ℕ}
+module _ (s : Session) (r : List ℕ) {l : Limits} (h : BeginFields) (t : Start) (p : Placed s r l h t) {b : Bool} {ps : List ℤ} {hs : List ℕ}
     (k : HoldsWishes (wishesOf (modulus l) (toZ w32 (ofZ w32 (t .poc))) (fieldsOf r)) (h .neg) (h .pos) (h .lt) b ps hs) where
   asked-is : HoldsWishes (wishes s (fieldsOf r)) (h .neg) (h .pos) (h .lt) b ps hs
   asked-is =
@@ -365,23 +365,23 @@ module _ (s : Session) (r : List ℕ) {l : Limits} (h : Head) (t : Start) (p : P
   wished n = record { placed = p; within = within-is ∙ not-false b n; few = few-of p; wishes = asked-is .items (not-false b n) }
 
 -- what steps 1 and 2 read and computed
-pub record Counted (s : Session) (h : Head) (k : Flags) (x : Poc) : Type 0 where
+pub record Counted (s : Session) (h : BeginFields) (k : Flags) (x : Poc) : Type 0 where
   pub flags : k ≡ flagsFrom (s .atStart) (s .ended) h
   pub poc : x ≡ pocAnswer (modulus (s .limits)) (prevFrom (k .over) (s .prev)) (h .lsb)
 
 -- the POC that was derived is the paper's, or outside as the paper's is
-module _ {s : Session} {r : List ℕ} {l : Limits} {h : Head} {k : Flags} {x : Poc} (w : Passed s r l h) (o : Counted s h k x) where
-  answer-is : x ≡ pocAnswer (modulus (s .limits)) (prevNow s r) (headOf r .lsb)
+module _ {s : Session} {r : List ℕ} {l : Limits} {h : BeginFields} {k : Flags} {x : Poc} (w : Passed s r l h) (o : Counted s h k x) where
+  answer-is : x ≡ pocAnswer (modulus (s .limits)) (prevNow s r) (beginFields r .lsb)
   answer-is =
-      let f : k ≡ flagsNow s r = o .flags ∙ ap (flagsFrom (s .atStart) (s .ended)) (w .head) in
-      o .poc ∙ (λ i. pocAnswer (modulus (s .limits)) (prevFrom (f i .over) (s .prev)) (w .head i .lsb))
+      let f : k ≡ flagsNow s r = o .flags ∙ ap (flagsFrom (s .atStart) (s .ended)) (w .fields) in
+      o .poc ∙ (λ i. pocAnswer (modulus (s .limits)) (prevFrom (f i .over) (s .prev)) (w .fields i .lsb))
 
   pub no-poc : x ≡ A.Outside → within s (fieldsOf r) ≡ false
-  no-poc e = poc-outside s r (sym (λ i. in32 (msb-is s r i) && in32 (poc-is s r i)) ∙ poc-out (modulus (s .limits)) (prevNow s r) (headOf r .lsb) (sym answer-is ∙ e))
+  no-poc e = poc-outside s r (sym (λ i. in32 (msb-is s r i) && in32 (poc-is s r i)) ∙ poc-out (modulus (s .limits)) (prevNow s r) (beginFields r .lsb) (sym answer-is ∙ e))
 
   placed-at : (m p : ℤ) → x ≡ A.Val m p → Placed s r l h (record { flags = k; msb = m; poc = p })
   placed-at m p e =
-      let v = poc-val (modulus (s .limits)) (prevNow s r) (headOf r .lsb) m p (sym answer-is ∙ e) in
+      let v = poc-val (modulus (s .limits)) (prevNow s r) (beginFields r .lsb) m p (sym answer-is ∙ e) in
       record {
         passed = w;
         flags = o .flags;

@@ -24,13 +24,13 @@ use Rattle.paper.proofs.Normal.{Bounded, bounded-after, reached-normal}
 use Rattle.paper.proofs.Calm.{Quiet, calm-between}
 use Rattle.paper.proofs.InStep.{InStep, in-step-after}
 use Rattle.paper.proofs.Demand.{demand}
-use Rattle.store.specs.Shelf.{word}
+use Rattle.store.specs.StoreWords.{word}
 use Rattle.session.specs.declared.Answer.{Answer}
 use Rattle.session.specs.View.{Memory, sessionIn}
 use Rattle.session.specs.Laid.{NormalMemory}
 use Rattle.session.specs.Said.{Permitted}
 use Rattle.session.specs.Sequence.{Called, Run, callsOf, saidIn, heardIn, Demanded}
-use Rattle.session.proofs.Memories.{sizeOf, members-few, heads-same, members-same, places-same}
+use Rattle.session.proofs.Memories.{sizeOf, members-few, fronts-same, members-same, stores-same}
 
 -- ---- any two permitted results are equal: answer, buffer and the session that is left
 
@@ -39,13 +39,13 @@ determined p q = (p .answer ∙ sym (q .answer), p .bytes ∙ sym (q .bytes), p 
 
 -- and, from memory in its normal form, in every word
 pub determined-words : {m : Memory} {r before : List ℕ} {a b : Answer} {m1 m2 : Memory} {x y : List ℕ} → Permitted m r before a m1 x → Permitted m r before b m2 y → NormalMemory m
-    → (m1 .head ≡ m2 .head) × ((i : ℕ) → word (m1 .sets) i ≡ word (m2 .sets) i) × ((j : ℕ) → j < 97 → word (m1 .places) j ≡ word (m2 .places) j)
+    → (m1 .front ≡ m2 .front) × ((i : ℕ) → word (m1 .sets) i ≡ word (m2 .sets) i) × ((j : ℕ) → j < 97 → word (m1 .store) j ≡ word (m2 .store) j)
 determined-words {m} {r} {before} {m1 = m1} {m2} p q n =
     let e = p .next ∙ sym (q .next) in
     let n1 = p .normal n in
     let n2 = q .normal n in
     let few : length (allRefs (stepOf (sessionIn m) r (length before) .next .refs)) ≤ sizeOf m1 = subst (λ (v : P.Session). length (allRefs (v .refs)) ≤ sizeOf m1) (p .next) (members-few m1) in
-    (heads-same n1 n2 e, (λ i. split (ltb i (sizeOf m1)) (λ t. members-same n1 n2 e i (ltb-true i (sizeOf m1) t)) (λ t. let le : sizeOf m1 ≤ i = ltb-false i (sizeOf m1) t in p .run i (omega arith) ∙ sym (q .run i (omega arith)))), places-same n1 n2 e)
+    (fronts-same n1 n2 e, (λ i. split (ltb i (sizeOf m1)) (λ t. members-same n1 n2 e i (ltb-true i (sizeOf m1) t)) (λ t. let le : sizeOf m1 ≤ i = ltb-false i (sizeOf m1) t in p .sets i (omega arith) ∙ sym (q .sets i (omega arith)))), stores-same n1 n2 e)
 
 -- ---- one call, on memory m
 

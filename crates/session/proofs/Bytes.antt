@@ -30,7 +30,8 @@ use Rattle.session.specs.Numbered.{numberOf}
 use Rattle.session.specs.Said.{Says, Refuses}
 use Rattle.store.specs.Tails.{tailIn, GoodTail}
 use Rattle.session.specs.Written.{FewMembers, Listable, toldBytes, numbersFrom, memberBytes, listIn}
-use Rattle.store.proofs.Shelf.{table-more, table-map}
+use Rattle.derivation.proofs.Pad.{is-long}
+use Rattle.store.proofs.StoreWords.{table-more, table-map, table-same}
 
 -- a refusal's number is not that of acceptance
 pub refusal-number : (r : Refusal) → eqb (numberOf r) 0 ≡ false
@@ -121,6 +122,14 @@ take-table d xs (suc n) h = take-suc xs n d (omega arith) ∙ ap (λ (l : List _
 pub words-front : {A : Type 0} (f : A → ℕ) (d : A) (xs : List A) (n : ℕ) → n ≤ length xs → words (map f (take n xs)) ≡ flat bytes32 (table (λ (i : ℕ). f (getD xs i d)) n)
 words-front f d xs n h = ap (λ (l : List _). words (map f l)) (take-table d xs n h) ∙ words-table f (λ (i : ℕ). getD xs i d) n
 
+-- and those of serials, as the numbers of a run from its start
+numbers-first : (xs : List Serial) (n : ℕ) → n ≤ length xs → words (serialNos (take n xs)) ≡ words (numbersFrom xs 0 n)
+unfolding words
+numbers-first xs n h =
+    let g : ℕ → ℕ = λ i. getD xs i blankSerial .0 in
+    let z : (i : ℕ) → 0 + i ≡ i = λ i. omega arith in
+    words-front (λ (s : Serial). s .0) blankSerial xs n h ∙ ap (flat bytes32) (sym (table-same (λ (i : ℕ). g (0 + i)) g n (λ i l. ap g (z i))))
+
 -- an array that holds its own elements: how many, and the lengths of their entries
 module _ {A : Type 0} {n m : ℕ} {d : A} {a : List A} (h : Padded n d a m (used m a)) where
   pub held-long : length (take m a) ≡ m
@@ -179,8 +188,10 @@ members-room x us vs f =
     simp length-append (omega arith)
 
 -- the serials of two lists, one behind the other
-pub listed : (x y : RefList) → Listable x → Listable y → bytesOf (Listed (listIn x) (listIn y)) ≡ framed (replyTo listsKind) 0 ((x .len ∷ y .len ∷ words (serialNos (take (x .len) (x .items)))) ++ words (serialNos (take (y .len) (y .items))))
+pub listed : (x y : RefList) → Listable x → Listable y → bytesOf (Listed (listIn x) (listIn y)) ≡ framed (replyTo listsKind) 0 ((x .len ∷ y .len ∷ words (numbersFrom (x .items) 0 (x .len))) ++ words (numbersFrom (y .items) 0 (y .len)))
 unfolding bytesOf used
 listed x y h k =
     let e = words-join (λ (s : Serial). s .0) (take (x .len) (x .items)) (take (y .len) (y .items)) in
-    rw (held-long (h .holds), held-long (k .holds), e)
+    let a = numbers-first (x .items) (x .len) (omega (arith, is-long (h .holds), h .holds .room)) in
+    let b = numbers-first (y .items) (y .len) (omega (arith, is-long (k .holds), k .holds .room)) in
+    rw (held-long (h .holds), held-long (k .holds), e, a, b)

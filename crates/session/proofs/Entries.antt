@@ -17,10 +17,10 @@ use Rattle.paper.specs.Records.{fieldsOf, shortAt, longAt}
 use Rattle.paper.specs.Ranges.{falling, rising, longOk, entriesOf, beginRanges}
 use Rattle.paper.proofs.Bools.{left, right, split}
 use Rattle.paper.proofs.Fits.{table-length}
-use Rattle.derivation.specs.Heads.{headRanges}
+use Rattle.derivation.specs.FieldRanges.{fieldRanges}
 use Rattle.derivation.proofs.Splitting.{ranges-split}
-use Rattle.format.specs.declared.records.Head.{Head}
-use Rattle.format.specs.Reads.{headOf}
+use Rattle.format.specs.declared.records.BeginFields.{BeginFields}
+use Rattle.format.specs.Reads.{beginFields}
 
 -- ---- tests of a run of entries
 -- a test of the first n entries that asks one thing more for each entry
@@ -119,16 +119,16 @@ module _ {t : ℤ → ShortEntry → Bool} {g : ℤ → List ShortEntry → Bool
         sym (stops (λ (j : ℕ). g (pos 0) (table f j)) (λ (j : ℕ). t (lastOf (pos 0) (table f j)) (f j)) (run-table (pos 0) f) i n lt (sym tested ∙ not-true b down))
 
 -- ---- the ranges of a begin
-abbrev pub headIn : ℕ → Head → Bool
-headIn M h = headRanges M (h .nal) (h .tid) (h .flags) (h .lsb) (h .neg + h .pos + h .lt)
+abbrev pub fieldsIn : ℕ → BeginFields → Bool
+fieldsIn M h = fieldRanges M (h .nal) (h .tid) (h .flags) (h .lsb) (h .neg + h .pos + h .lt)
 
-abbrev pub longsIn : ℕ → List ℕ → Head → Bool
+abbrev pub longsIn : ℕ → List ℕ → BeginFields → Bool
 longsIn M r h = allB (longOk M) (table (longAt r (16 + 5 * (h .neg + h .pos))) (h .lt))
 
-abbrev pub negIn : List ℕ → Head → Bool
+abbrev pub negIn : List ℕ → BeginFields → Bool
 negIn r h = falling (pos 0) (table (shortAt r 16) (h .neg))
 
-abbrev pub posIn : List ℕ → Head → Bool
+abbrev pub posIn : List ℕ → BeginFields → Bool
 posIn r h = rising (pos 0) (table (shortAt r (16 + 5 * h .neg)) (h .pos))
 
 -- as many entries as the counts say
@@ -137,34 +137,34 @@ unfolding fieldsOf
 entries-are r =
     rw (table-length (shortAt r 16) (u8 r 13), table-length (shortAt r (16 + 5 * u8 r 13)) (u8 r 14), table-length (longAt r (16 + 5 * (u8 r 13 + u8 r 14))) (u8 r 15))
 
-in-parts : (M : ℕ) (r : List ℕ) → beginRanges M (fieldsOf r) ≡ (headIn M (headOf r) && (longsIn M r (headOf r) && (negIn r (headOf r) && posIn r (headOf r))))
+in-parts : (M : ℕ) (r : List ℕ) → beginRanges M (fieldsOf r) ≡ (fieldsIn M (beginFields r) && (longsIn M r (beginFields r) && (negIn r (beginFields r) && posIn r (beginFields r))))
 unfolding fieldsOf
 in-parts M r =
     ranges-split M (fieldsOf r)
-    ∙ ap (λ (n : ℕ). headRanges M (u8 r 4) (u8 r 5) (u8 r 6) (u16 r 7) n && (longsIn M r (headOf r) && (negIn r (headOf r) && posIn r (headOf r)))) (entries-are r)
+    ∙ ap (λ (n : ℕ). fieldRanges M (u8 r 4) (u8 r 5) (u8 r 6) (u16 r 7) n && (longsIn M r (beginFields r) && (negIn r (beginFields r) && posIn r (beginFields r)))) (entries-are r)
 
--- a head in range has at most 16 entries
-head-few : (M nal tid flags lsb n : ℕ) → headRanges M nal tid flags lsb n ≡ true → n ≤ 16
-unfolding headRanges
-head-few M nal tid flags lsb n e =
+-- fields in range have at most 16 entries behind them
+fields-few : (M nal tid flags lsb n : ℕ) → fieldRanges M nal tid flags lsb n ≡ true → n ≤ 16
+unfolding fieldRanges
+fields-few M nal tid flags lsb n e =
     leb-true n 16
     (right (taken nal && leb tid 6 && (not (irap nal) || eqb tid 0) && ltb flags 4 && ltb lsb M) (leb n 16)
     (left (taken nal && leb tid 6 && (not (irap nal) || eqb tid 0) && ltb flags 4 && ltb lsb M && leb n 16) (not (idr nal) || (eqb lsb 0 && eqb n 0)) e))
 
-module _ (M : ℕ) (r : List ℕ) {h : Head} {b : Bool} (read : h ≡ headOf r) (is : b ≡ headIn M h) where
+module _ (M : ℕ) (r : List ℕ) {h : BeginFields} {b : Bool} (read : h ≡ beginFields r) (is : b ≡ fieldsIn M h) where
   pub begin-out : not b ≡ true → false ≡ beginRanges M (fieldsOf r)
   begin-out e =
-      let k : headIn M (headOf r) ≡ false = sym (ap (headIn M) read) ∙ sym is ∙ not-true b e in
-      sym (in-parts M r ∙ ap (λ (x : Bool). x && (longsIn M r (headOf r) && (negIn r (headOf r) && posIn r (headOf r)))) k)
+      let k : fieldsIn M (beginFields r) ≡ false = sym (ap (fieldsIn M) read) ∙ sym is ∙ not-true b e in
+      sym (in-parts M r ∙ ap (λ (x : Bool). x && (longsIn M r (beginFields r) && (negIn r (beginFields r) && posIn r (beginFields r)))) k)
 
   module _ (e : not b ≡ false) where
-    head-in : headIn M h ≡ true
-    head-in = sym is ∙ not-false b e
+    fields-in : fieldsIn M h ≡ true
+    fields-in = sym is ∙ not-false b e
 
     pub begin-few : h .neg + h .pos + h .lt ≤ 16
-    begin-few = head-few M (h .nal) (h .tid) (h .flags) (h .lsb) (h .neg + h .pos + h .lt) head-in
+    begin-few = fields-few M (h .nal) (h .tid) (h .flags) (h .lsb) (h .neg + h .pos + h .lt) fields-in
 
     pub begin-on : {l n p : Bool} → l ≡ longsIn M r h → n ≡ negIn r h → p ≡ posIn r h → (l && (n && p)) ≡ beginRanges M (fieldsOf r)
     begin-on x y z =
         ap₂ (λ (u v : Bool). u && v) x (ap₂ (λ (u v : Bool). u && v) y z)
-        ∙ sym (in-parts M r ∙ ap (λ (g : Head). headIn M g && (longsIn M r g && (negIn r g && posIn r g))) (sym read) ∙ ap (λ (u : Bool). u && (longsIn M r h && (negIn r h && posIn r h))) head-in)
+        ∙ sym (in-parts M r ∙ ap (λ (g : BeginFields). fieldsIn M g && (longsIn M r g && (negIn r g && posIn r g))) (sym read) ∙ ap (λ (u : Bool). u && (longsIn M r h && (negIn r h && posIn r h))) fields-in)

@@ -18,11 +18,11 @@ use Rattle.paper.specs.declared.Current.{Current}
 use Rattle.paper.specs.declared.Prev.the-variants as Prev
 use Rattle.paper.specs.declared.Now.the-variants as Now
 use Rattle.derivation.specs.declared.ref_lists.Refs.{Refs}
-use Rattle.store.specs.Shelf.{word, flagOf, flagWord}
-use Rattle.session.specs.HeadPlaces.{CONFIGURED, FIRST, ENDED, K, PREV, CURRENT}
+use Rattle.store.specs.StoreWords.{word, flagOf, flagWord}
+use Rattle.session.specs.FrontPlaces.{CONFIGURED, FIRST, ENDED, K, PREV, CURRENT}
 use Rattle.session.specs.View.{currentAt, nowAt, Front, frontIn, idleFront, configuredFront, begunFront, endedFront}
-use Rattle.session.specs.Laid.{headWords}
-use Rattle.store.proofs.Shelf.{flag-back}
+use Rattle.session.specs.Laid.{frontWords}
+use Rattle.store.proofs.StoreWords.{flag-back}
 
 -- words, one by one
 first-words : (h : List ℕ) (n : ℕ) → n ≤ length h → table (word h) n ≡ take n h
@@ -80,25 +80,25 @@ module _ (h : List ℕ) (long : length h ≡ 23) where
   front-ended = front-by (λ (l : List ℕ). set l ENDED 1) endedFront refl
 
 -- words that are what some session is written as are so after each kind of write
-module _ (h : List ℕ) (f : Front) (e : h ≡ headWords f) where
-  pub words-none : noneWords h ≡ headWords (idleFront f Prev.Nothing)
-  unfolding headWords
+module _ (h : List ℕ) (f : Front) (e : h ≡ frontWords f) where
+  pub words-none : noneWords h ≡ frontWords (idleFront f Prev.Nothing)
+  unfolding frontWords
   words-none = ap noneWords e
 
-  pub words-tid0 : (lsb : ℕ) (msb : ℤ) → tid0Words lsb msb h ≡ headWords (idleFront f (Prev.Tid0 lsb msb))
-  unfolding headWords
+  pub words-tid0 : (lsb : ℕ) (msb : ℤ) → tid0Words lsb msb h ≡ frontWords (idleFront f (Prev.Tid0 lsb msb))
+  unfolding frontWords
   words-tid0 lsb msb = ap (tid0Words lsb msb) e
 
-  pub words-limits : (l : Limits) → limitWords l h ≡ headWords (configuredFront f l)
-  unfolding headWords
+  pub words-limits : (l : Limits) → limitWords l h ≡ frontWords (configuredFront f l)
+  unfolding frontWords
   words-limits l = ap (limitWords l) e
 
-  pub words-begun : (c : Current) (x : Refs) (next : ℕ) → begunWords c x next h ≡ headWords (begunFront f c x next)
-  unfolding headWords
+  pub words-begun : (c : Current) (x : Refs) (next : ℕ) → begunWords c x next h ≡ frontWords (begunFront f c x next)
+  unfolding frontWords
   words-begun c x next = ap (begunWords c x next) e
 
-  pub words-ended : set h ENDED 1 ≡ headWords (endedFront f)
-  unfolding headWords
+  pub words-ended : set h ENDED 1 ≡ frontWords (endedFront f)
+  unfolding frontWords
   words-ended = ap (λ (l : List ℕ). set l ENDED 1) e
 
 -- a picture is current when its flag is on

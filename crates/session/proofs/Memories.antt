@@ -13,10 +13,10 @@ use Rattle.paper.specs.State as P
 use Rattle.paper.proofs.Bools.{split}
 use Rattle.derivation.specs.declared.ref_lists.Refs.{Refs}
 use Rattle.derivation.specs.Lists.{refsIn}
-use Rattle.store.specs.Shelf.{word}
+use Rattle.store.specs.StoreWords.{word}
 use Rattle.store.proofs.Tidy.{one-form}
 use Rattle.session.specs.View.{Memory, sessionIn, frontIn, refsAt}
-use Rattle.session.specs.Laid.{headOf, NormalMemory}
+use Rattle.session.specs.Laid.{frontWordsOf, NormalMemory}
 
 -- ---- the run of the sets, from the serials that are read of it
 
@@ -50,12 +50,12 @@ module _ (xs ys : List ℕ) (r : Refs) (e : refsIn xs r ≡ refsIn ys r) where
 -- ---- a memory
 
 abbrev pub sizeOf : Memory → ℕ
-sizeOf m = let r = refsAt (m .head) in r .before + r .after + r .long
+sizeOf m = let r = refsAt (m .front) in r .before + r .after + r .long
 
 pub members-few : (m : Memory) → length (allRefs (sessionIn m .refs)) ≤ sizeOf m
 unfolding frontIn refsIn
 members-few m =
-    let r = refsAt (m .head) in
+    let r = refsAt (m .front) in
     let xs = m .sets in
     let b = length-map (take (r .before) xs) aSerial ∙ length-take (r .before) xs in
     let a = length-map (take (r .after) (drop (r .before) xs)) aSerial ∙ length-take (r .after) (drop (r .before) xs) in
@@ -63,14 +63,14 @@ members-few m =
     simp length-append (omega arith)
 
 module _ {m1 m2 : Memory} (n1 : NormalMemory m1) (n2 : NormalMemory m2) (e : sessionIn m1 ≡ sessionIn m2) where
-  pub heads-same : m1 .head ≡ m2 .head
-  heads-same = n1 .head ∙ ap headOf e ∙ sym (n2 .head)
+  pub fronts-same : m1 .front ≡ m2 .front
+  fronts-same = n1 .front ∙ ap frontWordsOf e ∙ sym (n2 .front)
 
   pub members-same : (i : ℕ) → i < sizeOf m1 → word (m1 .sets) i ≡ word (m2 .sets) i
   unfolding frontIn
   members-same =
-      refs-same (m1 .sets) (m2 .sets) (refsAt (m1 .head))
-      (ap (λ (v : P.Session). v .refs) e ∙ ap (λ (h : List ℕ). refsIn (m2 .sets) (refsAt h)) (sym heads-same))
+      refs-same (m1 .sets) (m2 .sets) (refsAt (m1 .front))
+      (ap (λ (v : P.Session). v .refs) e ∙ ap (λ (h : List ℕ). refsIn (m2 .sets) (refsAt h)) (sym fronts-same))
 
-  pub places-same : (j : ℕ) → j < 97 → word (m1 .places) j ≡ word (m2 .places) j
-  places-same = one-form (n1 .places) (n2 .places) (ap (λ (v : P.Session). v .store) e)
+  pub stores-same : (j : ℕ) → j < 97 → word (m1 .store) j ≡ word (m2 .store) j
+  stores-same = one-form (n1 .store) (n2 .store) (ap (λ (v : P.Session). v .store) e)

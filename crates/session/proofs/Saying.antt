@@ -26,14 +26,14 @@ use Rattle.paper.proofs.Fits.{spare}
 use Rattle.derivation.specs.Lists.{refsIn}
 use Rattle.session.specs.declared.Answer.{Answer}
 use Rattle.store.specs.declared.Moved as Store
-use Rattle.store.specs.Shelf.{word, stored, NormalForm}
+use Rattle.store.specs.StoreWords.{word, stored, NormalForm}
 use Rattle.store.specs.Tails.{HoldsTail, tailIn}
 use Rattle.store.specs.Places.{roomy}
 use Rattle.store.specs.Bumps.{Leaves}
 use Rattle.derivation.proofs.Pad.{is-view}
 use Rattle.store.proofs.Ends.{drain-idle}
 use Rattle.session.specs.View.{Memory, memory, Front, sessionIn, sessionOf, frontIn, idleFront, configuredFront, endedFront, limitsAt, nowAt, prevAt}
-use Rattle.session.specs.Laid.{frontOf, headWords, headOf, NormalMemory}
+use Rattle.session.specs.Laid.{frontOf, frontWords, frontWordsOf, NormalMemory}
 use Rattle.session.specs.Said.{Says, Refuses, Does, Idles, Drained}
 use Rattle.session.proofs.Ways.{finish-idle, finish-now, finish-full, finish-room, drain-stuck, drain-free, configure-bad, configure-stuck, configure-free, discard-is, end-is, abandon-idle, abandon-now}
 
@@ -58,23 +58,23 @@ says-as kind {t} {u} {before} {a} {after} e h = subst (λ (x : Tail). Says (fram
 -- a refused record, which leaves every word as it was
 pub does-refuse : {m : Memory} {kind n : ℕ} {d : Decided} {before : List ℕ} {a : Answer} {after : List ℕ} → d ≡ refused (sessionIn m) kind n → Refuses kind n before a after → Does m d before a m after
 unfolding bytesOf
-does-refuse e h = as-decided e (record { answers = record { answer = h .answer; bytes = h .bytes }; next = refl; left = λ _. refl; normal = λ n. n; run = λ i le. refl })
+does-refuse e h = as-decided e (record { answers = record { answer = h .answer; bytes = h .bytes }; next = refl; left = λ _. refl; normal = λ n. n; sets = λ i le. refl })
 
 -- an accepted one with a tail
 pub accepted-does : {m m′ : Memory} (x : P.Session) (k : ℕ) (t : Tail) {before : List ℕ} {a : Answer} {after : List ℕ} → sessionIn m′ ≡ x → Says (framed (256 + k) 0 (tailBytes t)) before a after
-    → (NormalMemory m → m′ .head ≡ headOf x) → (NormalForm (m .places) → NormalForm (m′ .places)) → m′ .sets ≡ m .sets → Does m (accepted x k t) before a m′ after
+    → (NormalMemory m → m′ .front ≡ frontWordsOf x) → (NormalForm (m .store) → NormalForm (m′ .store)) → m′ .sets ≡ m .sets → Does m (accepted x k t) before a m′ after
 unfolding bytesOf
 accepted-does x k t e h w f s =
     record {
       answers = record { answer = h .answer; bytes = h .bytes };
       next = e;
       left = λ n. absurd (n refl);
-      normal = λ n. record { head = w n ∙ ap headOf (sym e); places = f (n .places) };
-      run = λ i le. ap (λ (xs : List ℕ). word xs i) s;
+      normal = λ n. record { front = w n ∙ ap frontWordsOf (sym e); store = f (n .store) };
+      sets = λ i le. ap (λ (xs : List ℕ). word xs i) s;
     }
 
 -- what `put_idle` leaves
-pub idles : {h h′ : List ℕ} {q : Prev} → (frontIn h′ ≡ idleFront (frontIn h) q) × ((f : Front) → h ≡ headWords f → h′ ≡ headWords (idleFront f q)) → Idles h h′ q
+pub idles : {h h′ : List ℕ} {q : Prev} → (frontIn h′ ≡ idleFront (frontIn h) q) × ((f : Front) → h ≡ frontWords f → h′ ≡ frontWords (idleFront f q)) → Idles h h′ q
 idles e = record { front = e .0; words = e .1 }
 
 -- a drain that nothing refuses: of a session with no current picture, and of one with room for it
@@ -86,7 +86,7 @@ drained-idle h t {kind = kind} {q} {h′} {t′} {r} en eq w i s =
       says = says-as kind (tail-held (y .tail)) s;
       pics = y .pics;
       normal = y .normal;
-      head = subst (Idles h h′) (eq ∙ ap (λ (n : Now). onNow n (prevAt h) (prevAfter (prevAt h))) (sym en)) i;
+      front = subst (Idles h h′) (eq ∙ ap (λ (n : Now). onNow n (prevAt h) (prevAfter (prevAt h))) (sym en)) i;
     }
 
 pub drained-now : (h t : List ℕ) (c : Current) {before : List ℕ} {a : Answer} {after : List ℕ} {kind : ℕ} {l : Limits} {q p : Prev} {h′ t′ : List ℕ} {r : Store.Moved} → nowAt h ≡ Now.Is c
@@ -99,7 +99,7 @@ drained-now h t c {kind = kind} {l} {q} {p} {h′} {t′} {r} en room el eq ep w
       says = says-as kind (tail-held (y .tail)) s;
       pics = y .pics;
       normal = y .normal;
-      head = subst (Idles h h′) (ep ∙ ap (λ (x : Prev). prevAfter x c) eq ∙ ap (λ (n : Now). onNow n (prevAt h) (prevAfter (prevAt h))) (sym en)) i;
+      front = subst (Idles h h′) (ep ∙ ap (λ (x : Prev). prevAfter x c) eq ∙ ap (λ (n : Now). onNow n (prevAt h) (prevAfter (prevAt h))) (sym en)) i;
     }
 
 -- ---- a call on the words h beside the store, xs of the sets and t of the store
@@ -136,7 +136,7 @@ module _ (h xs t : List ℕ) where
   module _ {before : List ℕ} {a : Answer} {after : List ℕ} where
     idle-does : (k : ℕ) (x : Moved) (q : Prev) {h′ t′ : List ℕ} → Idles h h′ q → stored t′ ≡ x .pics → Says (framed (256 + k) 0 (tailBytes (x .tail))) before a after
         → (NormalForm t → NormalForm t′) → Does m (accepted (idleWith v (x .pics) q) k (x .tail)) before a (memory h′ xs t′) after
-    idle-does k x q {h′} {t′} e f s n = accepted-does (idleWith v (x .pics) q) k (x .tail) (idle-next h′ t′ (e .front) f) s (λ z. e .words (frontOf v) (z .head)) n refl
+    idle-does k x q {h′} {t′} e f s n = accepted-does (idleWith v (x .pics) q) k (x .tail) (idle-next h′ t′ (e .front) f) s (λ z. e .words (frontOf v) (z .front)) n refl
 
     -- finish
     pub finish-4 : nowAt h ≡ Now.Idle → Refuses (replyTo finishKind) 4 before a after → Does m (finishOf v) before a m after
@@ -166,7 +166,7 @@ module _ (h xs t : List ℕ) where
     unfolding frontIn
     drain-does e d =
         as-decided (drain-free v e)
-        (idle-does 5 (drained (limitsAt h) (stored t) (nowAt h)) (onNow (nowAt h) (prevAt h) (prevAfter (prevAt h))) (d .head) (d .pics) (d .says) (d .normal))
+        (idle-does 5 (drained (limitsAt h) (stored t) (nowAt h)) (onNow (nowAt h) (prevAt h) (prevAfter (prevAt h))) (d .front) (d .pics) (d .says) (d .normal))
 
     -- configure
     pub configure-2 : (l : Limits) → configureRanges l ≡ false → Refuses (replyTo configureKind) 2 before a after → Does m (configureOf v l) before a m after
@@ -177,15 +177,15 @@ module _ (h xs t : List ℕ) where
     configure-9 l b e r = does-refuse (configure-stuck v l b e) r
 
     pub configure-does : (l : Limits) (h2 : List ℕ) {n : Limits} {h1 h3 t′ : List ℕ} → configureRanges l ≡ true → stuck ≡ false → Drained h t (replyTo configureKind) before a h1 t′ after → Idles h1 h2 Prev.Nothing
-        → frontIn h3 ≡ configuredFront (frontIn h2) n → ((f : Front) → h2 ≡ headWords f → h3 ≡ headWords (configuredFront f n)) → n ≡ taken16 l → Does m (configureOf v l) before a (memory h3 xs t′) after
+        → frontIn h3 ≡ configuredFront (frontIn h2) n → ((f : Front) → h2 ≡ frontWords f → h3 ≡ frontWords (configuredFront f n)) → n ≡ taken16 l → Does m (configureOf v l) before a (memory h3 xs t′) after
     unfolding frontIn refsIn
     configure-does l h2 {n} {t′ = t′} b e d i2 i3 w3 en =
-        let f = i3 ∙ ap (configuredFront (frontIn h2)) en ∙ ap (λ (x : Front). configuredFront x (taken16 l)) (i2 .front ∙ ap (λ (x : Front). idleFront x Prev.Nothing) (d .head .front)) in
+        let f = i3 ∙ ap (configuredFront (frontIn h2)) en ∙ ap (λ (x : Front). configuredFront x (taken16 l)) (i2 .front ∙ ap (λ (x : Front). idleFront x Prev.Nothing) (d .front .front)) in
         let q = onNow (nowAt h) (prevAt h) (prevAfter (prevAt h)) in
         let g = idleFront (idleFront (frontOf v) q) Prev.Nothing in
         as-decided (configure-free v l b e)
         (accepted-does (configuredSession v l) 1 (drainedNow v .tail) (ap (λ (x : Front). sessionOf x xs t′) f ∙ ap (configuredWith l) (d .pics)) (d .says)
-        (λ z. w3 g (i2 .words (idleFront (frontOf v) q) (d .head .words (frontOf v) (z .head))) ∙ ap (λ (x : Limits). headWords (configuredFront g x)) en) (d .normal) refl)
+        (λ z. w3 g (i2 .words (idleFront (frontOf v) q) (d .front .words (frontOf v) (z .front))) ∙ ap (λ (x : Limits). frontWords (configuredFront g x)) en) (d .normal) refl)
 
     -- discard
     pub discard-does : {x : Now} {q : Prev} {h′ t′ : List ℕ} {r : Store.Moved} → x ≡ nowAt h → q ≡ prevAt h → Leaves (discarded (stored t) x) t t′ r → Idles h h′ q
@@ -196,9 +196,9 @@ module _ (h xs t : List ℕ) where
         as-decided (discard-is v) (idle-does 6 (discarded (stored t) (nowAt h)) (prevAt h) (subst (Idles h h′) eq i) (y .pics) (says-as (replyTo discardKind) (tail-held (y .tail)) s) (y .normal))
 
     -- end of sequence
-    pub end-does : {h′ : List ℕ} → frontIn h′ ≡ endedFront (frontIn h) → ((f : Front) → h ≡ headWords f → h′ ≡ headWords (endedFront f)) → Says (framed (replyTo endKind) 0 (tailBytes quiet)) before a after
+    pub end-does : {h′ : List ℕ} → frontIn h′ ≡ endedFront (frontIn h) → ((f : Front) → h ≡ frontWords f → h′ ≡ frontWords (endedFront f)) → Says (framed (replyTo endKind) 0 (tailBytes quiet)) before a after
         → Does m (endOf v) before a (memory h′ xs t) after
-    end-does e w s = as-decided (end-is v) (accepted-does (endedSession v) 7 quiet (ap (λ (x : Front). sessionOf x xs t) e) s (λ z. w (frontOf v) (z .head)) (λ n. n) refl)
+    end-does e w s = as-decided (end-is v) (accepted-does (endedSession v) 7 quiet (ap (λ (x : Front). sessionOf x xs t) e) s (λ z. w (frontOf v) (z .front)) (λ n. n) refl)
 
     -- abandon
     pub abandon-4 : nowAt h ≡ Now.Idle → Refuses (replyTo abandonKind) 4 before a after → Does m (abandonOf v) before a m after

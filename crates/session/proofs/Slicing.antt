@@ -32,7 +32,7 @@ use Rattle.derivation.proofs.Instances.{list0-is, list1-is, built-is, candidate
 use Rattle.session.specs.declared.Answer.{Answer}
 use Rattle.session.specs.declared.Refusal.{Refusal}
 use Rattle.format.specs.declared.records.Ask.{Ask}
-use Rattle.format.specs.declared.records.SliceHead.{SliceHead}
+use Rattle.format.specs.declared.records.SliceFields.{SliceFields}
 use Rattle.session.specs.declared.lists.Verdict.{Verdict}
 use Rattle.session.specs.declared.lists.Verdict.the-variants.{Fine, No}
 use Rattle.session.specs.Numbered.{numberOf}
@@ -148,12 +148,12 @@ unfolding listsNumber first
 fails-5 x f e c = rw e
 
 -- what is read and counted of a record whose fields are within their ranges
-pub record Judging (x : Refs) (f : Slice) (h : SliceHead) (n : ℕ) : Type 0 where
+pub record Judging (x : Refs) (f : Slice) (h : SliceFields) (n : ℕ) : Type 0 where
   pub ok : listsRanges f ≡ true
   pub reads : ReadsAs h f
   pub count : CandidateCount x (f .own) n
 
-module _ {x : Refs} {f : Slice} {h : SliceHead} {n : ℕ} (g : Judging x f h n) where
+module _ {x : Refs} {f : Slice} {h : SliceFields} {n : ℕ} (g : Judging x f h n) where
   abbrev a : Ask
   a = h .ask0
 

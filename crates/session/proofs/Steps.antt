@@ -103,7 +103,7 @@ lists-keep s f = go (s .current)
     go (Now.Is c) = by-case (Keeps s) (eqb (listsRefusal s c f) 0) _ _ (λ _. record { is = refl }) (λ _. record { is = refl })
 
 pub lists-do : (m : Memory) (f : Slice) {before : List ℕ} {a : Answer} {after : List ℕ} → Answers (listsOf (sessionIn m) f) before a after → Does m (listsOf (sessionIn m) f) before a m after
-lists-do m f h = record { answers = h; next = lists-keep (sessionIn m) f .is; left = λ _. refl; normal = λ n. n; run = λ i le. refl }
+lists-do m f h = record { answers = h; next = lists-keep (sessionIn m) f .is; left = λ _. refl; normal = λ n. n; sets = λ i le. refl }
 
 -- ---- the whole call
 
@@ -127,7 +127,7 @@ permitted {m} {r} {before} d room e h =
       next = h .next ∙ ap (λ (y : Result). y .next) x;
       left = λ n. h .left (λ z. n (ap (λ (y : Answer). y .number) (h .answers .answer) ∙ z));
       normal = h .normal;
-      run = λ i le. h .run i (subst (λ (y : Result). length (allRefs (y .next .refs)) ≤ i) (sym x) le);
+      sets = λ i le. h .sets i (subst (λ (y : Result). length (allRefs (y .next .refs)) ≤ i) (sym x) le);
     }
 
 -- a record of the kind that was read
@@ -144,5 +144,5 @@ no-room {m} {r} {before} e h =
       next = ap (λ (y : Result). y .next) x;
       left = λ _. refl;
       normal = λ n. n;
-      run = λ i le. refl;
+      sets = λ i le. refl;
     }

@@ -18,12 +18,12 @@ use Rattle.paper.proofs.Fits.{table-length}
 use Rattle.derivation.specs.declared.wishes.Wanted.{Wanted}
 use Rattle.derivation.specs.declared.wishes.Wanted.the-variants as W
 use Rattle.derivation.specs.Answers.{wantedOf}
-use Rattle.format.specs.declared.records.Head.{Head}
+use Rattle.format.specs.declared.records.BeginFields.{BeginFields}
 use Rattle.store.specs.Runs.{wishAt, wishesAt, wishesIn}
-use Rattle.format.specs.Reads.{headOf}
+use Rattle.format.specs.Reads.{beginFields}
 use Rattle.session.specs.Parts.{shortsAt, longsAt, isWanted, Wants, WantsAll, HoldsWishes}
 use Rattle.session.proofs.Entries.{all-both, all-more}
-use Rattle.store.proofs.Shelf.{table-more, table-same, table-next, table-join}
+use Rattle.store.proofs.StoreWords.{table-more, table-same, table-next, table-join}
 
 -- ---- one wish
 
@@ -140,10 +140,10 @@ apart {A} {xs} {ys} {us} {vs} e l =
     let n = length us in
     (sym (take-at xs ys n l) ∙ ap (take n) e ∙ take-at us vs n refl, sym (drop-at xs ys n l) ∙ ap (drop n) e ∙ drop-at us vs n refl)
 
-abbrev askedBy : ℕ → ℤ → List ℕ → Head → Wishes
+abbrev askedBy : ℕ → ℤ → List ℕ → BeginFields → Wishes
 askedBy M p r h = record { neg = shortsAt p r 16 (h .neg); pos = shortsAt p r (16 + 5 * h .neg) (h .pos); lt = longsAt M p r (16 + 5 * (h .neg + h .pos)) (h .lt) }
 
-asked-is : (M : ℕ) (p : ℤ) (r : List ℕ) (h : Head) → h ≡ headOf r → wishesOf M p (fieldsOf r) ≡ askedBy M p r h
+asked-is : (M : ℕ) (p : ℤ) (r : List ℕ) (h : BeginFields) → h ≡ beginFields r → wishesOf M p (fieldsOf r) ≡ askedBy M p r h
 unfolding wishesOf fieldsOf
 asked-is M p r h e = ap (askedBy M p r) (sym e)
 
@@ -170,7 +170,7 @@ module _ {ps₀ ps qs : List ℤ} {hs₀ hs gs : List ℕ} {a b : Bool} (M : ℕ
       let lt : wishesAt qs gs (n + m) l ≡ longsAt M p r (16 + 5 * (n + m)) l = rw (longs-long M p r (16 + 5 * (n + m)) l) at (y .items (right a b e)) in
       λ i. record { neg = s .0 i; pos = s .1 i; lt = lt i }
 
-pub holds-wishes : {ps₀ ps qs : List ℤ} {hs₀ hs gs : List ℕ} {a b : Bool} {q : ℤ} {h : Head} (M : ℕ) (p : ℤ) (r : List ℕ) → h ≡ headOf r → q ≡ p
+pub holds-wishes : {ps₀ ps qs : List ℤ} {hs₀ hs gs : List ℕ} {a b : Bool} {q : ℤ} {h : BeginFields} (M : ℕ) (p : ℤ) (r : List ℕ) → h ≡ beginFields r → q ≡ p
     → WantsAll (shortsAt q r 16 (h .neg + h .pos)) 0 ps₀ hs₀ a ps hs → WantsAll (longsAt M q r (16 + 5 * (h .neg + h .pos)) (h .lt)) (h .neg + h .pos) ps hs b qs gs
     → HoldsWishes (wishesOf M p (fieldsOf r)) (h .neg) (h .pos) (h .lt) (a && b) qs gs
 unfolding wishesIn32

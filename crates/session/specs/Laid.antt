@@ -13,7 +13,7 @@ use Rattle.paper.specs.declared.Prev.{Prev}
 use Rattle.paper.specs.declared.Prev.the-variants as Prev
 use Rattle.paper.specs.declared.Now.{Now}
 use Rattle.derivation.specs.declared.ref_lists.Refs.{Refs}
-use Rattle.store.specs.Shelf.{flagWord, NormalForm}
+use Rattle.store.specs.StoreWords.{flagWord, NormalForm}
 use Rattle.session.specs.View.{Memory, Front, sessionIn}
 
 abbrev pub limitsWords : Limits → List ℕ
@@ -43,8 +43,8 @@ abbrev pub sizeWords : Refs → List ℕ
 sizeWords x = x .before ∷ x .after ∷ x .long ∷ []
 
 -- twenty-three words: four, then those of each part
-unfoldable pub headWords : Front → List ℕ
-headWords f =
+unfoldable pub frontWords : Front → List ℕ
+frontWords f =
     (flagWord (f .configured) ∷ flagWord (f .start) ∷ flagWord (f .ended) ∷ f .next ∷ [])
     ++ limitsWords (f .limits) ++ prevWords (f .prev) ++ nowWords (f .current) ++ sizeWords (f .refs)
 
@@ -56,10 +56,10 @@ abbrev pub frontOf : P.Session → Front
 frontOf s =
     record { configured = s .configured; limits = s .limits; current = s .current; refs = sizesOf (s .refs); prev = s .prev; start = s .atStart; ended = s .ended; next = s .next }
 
-abbrev pub headOf : P.Session → List ℕ
-headOf s = headWords (frontOf s)
+abbrev pub frontWordsOf : P.Session → List ℕ
+frontWordsOf s = frontWords (frontOf s)
 
 -- the normal form: the words beside the store are those that the session is written as, and behind the length of the store all is blank
 pub record NormalMemory (m : Memory) : Type 0 where
-  pub head : m .head ≡ headOf (sessionIn m)
-  pub places : NormalForm (m .places)
+  pub front : m .front ≡ frontWordsOf (sessionIn m)
+  pub store : NormalForm (m .store)

@@ -1,5 +1,5 @@
 pub mod Numbered
-pub mod HeadPlaces
+pub mod FrontPlaces
 pub mod View
 pub mod Laid
 pub mod Said

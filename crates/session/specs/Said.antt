@@ -14,10 +14,10 @@ use Rattle.paper.specs.Calls.{drained, prevAfter}
 use Rattle.paper.specs.Step.{Decided, stepOf}
 use mathlib.Core.Bool.{true}
 use Rattle.paper.specs.declared.Prev.{Prev}
-use Rattle.store.specs.Shelf.{word, stored, NormalForm}
+use Rattle.store.specs.StoreWords.{word, stored, NormalForm}
 use Rattle.session.specs.declared.Answer.{Answer}
 use Rattle.session.specs.View.{Memory, Front, memory, sessionIn, frontIn, idleFront, nowAt, prevAt, limitsAt}
-use Rattle.session.specs.Laid.{headWords, NormalMemory}
+use Rattle.session.specs.Laid.{frontWords, NormalMemory}
 
 -- an accepted record's reply
 pub record Says (reply before : List ℕ) (a : Answer) (after : List ℕ) : Type 0 where
@@ -41,7 +41,7 @@ pub record Does (m : Memory) (d : Decided) (before : List ℕ) (a : Answer) (m�
   pub next : sessionIn m′ ≡ d .next
   pub left : (d .number ≡ 0 → ⊥) → m′ ≡ m
   pub normal : NormalMemory m → NormalMemory m′
-  pub run : (i : ℕ) → length (allRefs (d .next .refs)) ≤ i → word (m′ .sets) i ≡ word (m .sets) i
+  pub sets : (i : ℕ) → length (allRefs (d .next .refs)) ≤ i → word (m′ .sets) i ≡ word (m .sets) i
 
 -- what is lent to a call, words or bytes: `.entry` as the call finds it, `.exit` as it leaves it
 abbrev pub Lent : Type 0
@@ -53,18 +53,18 @@ Decides decide m m′ reply a = Does m (decide (sessionIn m)) (now (reply .entry
 
 -- where the whole memory is lent to it
 abbrev pub Calls : (Session → Decided) → Lent → Lent → Lent → Lent → Answer → Type 0
-Calls decide head run places reply a =
-    Decides decide (memory (now (head .entry)) (now (run .entry)) (now (places .entry)))
-    (memory (now (head .exit)) (now (run .exit)) (now (places .exit))) reply a
+Calls decide front sets store reply a =
+    Decides decide (memory (now (front .entry)) (now (sets .entry)) (now (store .entry)))
+    (memory (now (front .exit)) (now (sets .exit)) (now (store .exit))) reply a
 
 -- where the run of the sets is not lent to it: whatever that holds
 abbrev pub CallsStore : (Session → Decided) → Lent → Lent → Lent → Answer → Type 0
-CallsStore decide head places reply a =
-    (xs : List ℕ) → Decides decide (memory (now (head .entry)) xs (now (places .entry))) (memory (now (head .exit)) xs (now (places .exit))) reply a
+CallsStore decide front store reply a =
+    (xs : List ℕ) → Decides decide (memory (now (front .entry)) xs (now (store .entry))) (memory (now (front .exit)) xs (now (store .exit))) reply a
 
 -- where neither that run nor the store is lent to it
-abbrev pub CallsHead : (Session → Decided) → Lent → Lent → Answer → Type 0
-CallsHead decide head reply a = (xs t : List ℕ) → Decides decide (memory (now (head .entry)) xs t) (memory (now (head .exit)) xs t) reply a
+abbrev pub CallsFront : (Session → Decided) → Lent → Lent → Answer → Type 0
+CallsFront decide front reply a = (xs t : List ℕ) → Decides decide (memory (now (front .entry)) xs t) (memory (now (front .exit)) xs t) reply a
 
 -- "reply buffer under 512 bytes" is number 14: the calls behind it have the room
 pub record Roomy (reply : List ℕ) : Type 0 where
@@ -78,18 +78,18 @@ pub record WellFormed (k : ℕ) (r : List ℕ) : Type 0 where
 -- the words beside the store when no picture is current any more and q is the previous Tid0 picture
 pub record Idles (h h′ : List ℕ) (q : Prev) : Type 0 where
   pub front : frontIn h′ ≡ idleFront (frontIn h) q
-  pub words : (f : Front) → h ≡ headWords f → h′ ≡ headWords (idleFront f q)
+  pub words : (f : Front) → h ≡ frontWords f → h′ ≡ frontWords (idleFront f q)
 
 -- a drain that nothing refuses, with the reply of kind `kind`
 pub record Drained (h t : List ℕ) (kind : ℕ) (before : List ℕ) (a : Answer) (h′ t′ after : List ℕ) : Type 0 where
   pub says : Says (framed kind 0 (tailBytes (drained (limitsAt h) (stored t) (nowAt h) .tail))) before a after
   pub pics : stored t′ ≡ drained (limitsAt h) (stored t) (nowAt h) .pics
-  pub head : Idles h h′ (onNow (nowAt h) (prevAt h) (prevAfter (prevAt h)))
+  pub front : Idles h h′ (onNow (nowAt h) (prevAt h) (prevAfter (prevAt h)))
   pub normal : NormalForm t → NormalForm t′
 
 -- of what is lent to it
 abbrev pub Drains : ℕ → Lent → Lent → Lent → Answer → Type 0
-Drains kind head places reply a = Drained (now (head .entry)) (now (places .entry)) kind (now (reply .entry)) a (now (head .exit)) (now (places .exit)) (now (reply .exit))
+Drains kind front store reply a = Drained (now (front .entry)) (now (store .entry)) kind (now (reply .entry)) a (now (front .exit)) (now (store .exit)) (now (reply .exit))
 
 -- The contract of `step`: the answer, the whole buffer and the next session are those of the paper's `stepOf`; a refused record leaves every word as it was; memory in
 -- its normal form stays so; and the run of the sets stays as it was behind the next session's members
@@ -99,4 +99,4 @@ pub record Permitted (m : Memory) (r before : List ℕ) (a : Answer) (m′ : Mem
   pub next : sessionIn m′ ≡ stepOf (sessionIn m) r (length before) .next
   pub left : (a .number ≡ 0 → ⊥) → m′ ≡ m
   pub normal : NormalMemory m → NormalMemory m′
-  pub run : (i : ℕ) → length (allRefs (stepOf (sessionIn m) r (length before) .next .refs)) ≤ i → word (m′ .sets) i ≡ word (m .sets) i
+  pub sets : (i : ℕ) → length (allRefs (stepOf (sessionIn m) r (length before) .next .refs)) ≤ i → word (m′ .sets) i ≡ word (m .sets) i

@@ -28,20 +28,20 @@ use Rattle.paper.specs.Output.{beforeDecoding}
 use Rattle.paper.specs.Replies.{framed, tailBytes}
 use Rattle.derivation.specs.declared.ref_lists.Refs.{Refs}
 use Rattle.store.specs.declared.Sizes.{Sizes}
-use Rattle.store.specs.Shelf.{word, flagOf, stored, NormalForm}
+use Rattle.store.specs.StoreWords.{word, flagOf, stored, NormalForm}
 use Rattle.store.specs.Runs.{wishesIn}
-use Rattle.format.specs.declared.records.Head.{Head}
+use Rattle.format.specs.declared.records.BeginFields.{BeginFields}
 use Rattle.session.specs.declared.Answer.{Answer}
 use Rattle.session.specs.declared.replies.Told.{Told}
 use Rattle.session.specs.declared.begin.Flags.{Flags}
 use Rattle.session.specs.declared.begin.Start.{Start}
-use Rattle.session.specs.HeadPlaces.{ENDED, NEXT}
-use Rattle.format.specs.Reads.{headOf}
+use Rattle.session.specs.FrontPlaces.{ENDED, NEXT}
+use Rattle.format.specs.Reads.{beginFields}
 use Rattle.session.specs.View.{limitsAt}
 use Rattle.session.specs.Said.{Says}
 use Rattle.session.specs.Written.{begunPart}
 
-abbrev pub flagsFrom : Bool → Bool → Head → Flags
+abbrev pub flagsFrom : Bool → Bool → BeginFields → Flags
 flagsFrom start ended h =
     record {
       rasl = noRaslOutput (h .nal) start ended;
@@ -57,7 +57,7 @@ flagsNumber f = flagAt 0 (f .rasl) + flagAt 1 (f .output) + flagAt 2 (f .valid) 
 abbrev pub prevFrom : Bool → Prev → Prev
 prevFrom over q = cond over Prev.Nothing q
 
-abbrev pub currentFrom : ℕ → Head → Start → Current
+abbrev pub currentFrom : ℕ → BeginFields → Start → Current
 currentFrom next h t =
     record { serial = aSerial next; surface = h .surface; poc = t .poc; lsb = h .lsb; msb = t .msb; output = t .flags .output; valid = t .flags .valid }
 
@@ -68,9 +68,9 @@ abbrev pub refsFrom : Sizes → Refs
 refsFrom x = record { before = x .before; after = x .after; long = x .long }
 
 -- none of 1, 3, 5, 8 and 7, where l are the limits and h the fields of the begin before its entries
-pub record Passed (s : Session) (r : List ℕ) (l : Limits) (h : Head) : Type 0 where
+pub record Passed (s : Session) (r : List ℕ) (l : Limits) (h : BeginFields) : Type 0 where
   pub limits : l ≡ s .limits
-  pub head : h ≡ headOf r
+  pub fields : h ≡ beginFields r
   pub configured : s .configured ≡ true
   pub idle : isCurrent (s .current) ≡ false
   pub ranges : beginRanges (modulus (s .limits)) (fieldsOf r) ≡ true
@@ -78,7 +78,7 @@ pub record Passed (s : Session) (r : List ℕ) (l : Limits) (h : Head) : Type 0 
   pub free : anyB (heldBy (fieldsOf r .surface)) (s .store) ≡ false
 
 -- and the flags, the MSB and the POC, which lie in i32
-pub record Placed (s : Session) (r : List ℕ) (l : Limits) (h : Head) (t : Start) : Type 0 where
+pub record Placed (s : Session) (r : List ℕ) (l : Limits) (h : BeginFields) (t : Start) : Type 0 where
   pub passed : Passed s r l h
   pub flags : t .flags ≡ flagsFrom (s .atStart) (s .ended) h
   pub msb : t .msb ≡ Begin.msb s (fieldsOf r)
@@ -86,14 +86,14 @@ pub record Placed (s : Session) (r : List ℕ) (l : Limits) (h : Head) (t : Star
   pub inside : (in32 (t .msb) && in32 (t .poc)) ≡ true
 
 -- and the wishes, all of which do
-pub record Wished (s : Session) (r : List ℕ) (l : Limits) (h : Head) (t : Start) (ps : List ℤ) (hs : List ℕ) : Type 0 where
+pub record Wished (s : Session) (r : List ℕ) (l : Limits) (h : BeginFields) (t : Start) (ps : List ℤ) (hs : List ℕ) : Type 0 where
   pub placed : Placed s r l h t
   pub within : within s (fieldsOf r) ≡ true
   pub few : h .neg + h .pos + h .lt ≤ 16
   pub wishes : wishesIn ps hs (h .neg) (h .pos) (h .lt) ≡ wishes s (fieldsOf r)
 
--- step 5 of the pictures that step 4 marked, and the reply, where the two runs of the sets are us and vs
-pub record Tells (h : List ℕ) (us vs : List Serial) (ps : List Picture) (p : List ℕ) (t : Start) (x : Sizes) (before : List ℕ) (a : Answer) (p′ after : List ℕ) : Type 0 where
+-- step 5 of the pictures that step 4 marked, and the reply, where the two runs of the sets are first and second
+pub record Tells (h : List ℕ) (first second : List Serial) (ps : List Picture) (p : List ℕ) (t : Start) (x : Sizes) (before : List ℕ) (a : Answer) (p′ after : List ℕ) : Type 0 where
   pub pics : stored p′ ≡ beforeDecoding (t .flags .over && not (flagOf (word h ENDED))) (t .flags .prior) (limitsAt h) ps .pics
   pub normal : NormalForm p → NormalForm p′
-  pub says : Says (framed (replyTo beginKind) 0 (begunPart (toldFrom (word h NEXT) t) x us vs ++ tailBytes (beforeDecoding (t .flags .over && not (flagOf (word h ENDED))) (t .flags .prior) (limitsAt h) ps .tail))) before a after
+  pub says : Says (framed (replyTo beginKind) 0 (begunPart (toldFrom (word h NEXT) t) x first second ++ tailBytes (beforeDecoding (t .flags .over && not (flagOf (word h ENDED))) (t .flags .prior) (limitsAt h) ps .tail))) before a after

@@ -15,18 +15,18 @@ use Rattle.paper.specs.declared.Now.{Now}
 use Rattle.paper.specs.declared.Now.the-variants as Now
 use Rattle.derivation.specs.declared.ref_lists.Refs.{Refs}
 use Rattle.derivation.specs.Lists.{refsIn}
-use Rattle.store.specs.Shelf.{word, flagOf, stored}
-use Rattle.session.specs.HeadPlaces.{CONFIGURED, FIRST, ENDED, NEXT, K, CAPACITY, BUFFERING, REORDER, LATENCY, PREV, PREV-LSB, PREV-MSB}
-use Rattle.session.specs.HeadPlaces.{CURRENT, SERIAL, SURFACE, POC, LSB, MSB, OUTPUT, VALID, BEFORE, AFTER, LONG}
+use Rattle.store.specs.StoreWords.{word, flagOf, stored}
+use Rattle.session.specs.FrontPlaces.{CONFIGURED, FIRST, ENDED, NEXT, K, CAPACITY, BUFFERING, REORDER, LATENCY, PREV, PREV-LSB, PREV-MSB}
+use Rattle.session.specs.FrontPlaces.{CURRENT, SERIAL, SURFACE, POC, LSB, MSB, OUTPUT, VALID, BEFORE, AFTER, LONG}
 
 -- the words beside the store and the run of the sets, that run, and the store's words
 pub record Memory : Type 0 where
-  pub head : List ℕ
+  pub front : List ℕ
   pub sets : List ℕ
-  pub places : List ℕ
+  pub store : List ℕ
 
 abbrev pub memory : List ℕ → List ℕ → List ℕ → Memory
-memory h xs t = record { head = h; sets = xs; places = t }
+memory h xs t = record { front = h; sets = xs; store = t }
 
 -- what the words beside the store say, part by part
 
@@ -94,7 +94,7 @@ sessionOf f xs t =
     }
 
 abbrev pub sessionIn : Memory → P.Session
-sessionIn m = sessionOf (frontIn (m .head)) (m .sets) (m .places)
+sessionIn m = sessionOf (frontIn (m .front)) (m .sets) (m .store)
 
 -- how a call changes the words beside the store: with no picture current and this previous Tid0 picture; with these limits; with this picture current; after end of
 -- sequence

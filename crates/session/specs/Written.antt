@@ -1,15 +1,17 @@
 -- The parts of a reply as the code writes them.
 use Prim.Native.Nat.{ℕ, _+_, _≤_}
 use mathlib.Core.List.{List, [], _∷_, _++_}
-use lib.ListN.{getD}
+use mathlib.Core.Bool.{Bool, cond}
+use lib.ListN.{getD, take}
 use Rattle.paper.specs.declared.Serial.{Serial}
 use Rattle.paper.specs.Words.{table}
-use Rattle.paper.specs.Numbers.{bytes32, signed32}
+use Rattle.paper.specs.Numbers.{bytes32, signed32, serialNos, surfaceNos}
 use Rattle.paper.specs.Replies.{words}
 use Rattle.derivation.specs.Pad.{used}
 use Rattle.derivation.specs.declared.ref_lists.RefList.{RefList}
 use Rattle.derivation.specs.Lists.{HoldsList, blankSerial}
 use Rattle.store.specs.declared.Sizes.{Sizes}
+use Rattle.store.specs.declared.Moved.{Moved}
 use Rattle.session.specs.declared.replies.Told.{Told}
 
 -- the members of all five sets are sixteen at most
@@ -27,14 +29,21 @@ abbrev pub numbersFrom : List Serial → ℕ → ℕ → List ℕ
 numbersFrom xs from n = table (λ (i : ℕ). getD xs (from + i) blankSerial .0) n
 
 abbrev pub memberBytes : Sizes → List Serial → List Serial → List ℕ
-memberBytes x us vs =
-    words (numbersFrom us 0 (x .before + x .after))
-    ++ words (numbersFrom vs 0 (x .foll))
-    ++ words (numbersFrom us (x .before + x .after) (x .long))
-    ++ words (numbersFrom vs (x .foll) (x .«lt_foll»))
+memberBytes x first second =
+    words (numbersFrom first 0 (x .before + x .after))
+    ++ words (numbersFrom second 0 (x .foll))
+    ++ words (numbersFrom first (x .before + x .after) (x .long))
+    ++ words (numbersFrom second (x .foll) (x .«lt_foll»))
 
 abbrev pub begunPart : Told → Sizes → List Serial → List Serial → List ℕ
-begunPart t x us vs = toldBytes t ++ sizesBytes x ++ memberBytes x us vs
+begunPart t x first second = toldBytes t ++ sizesBytes x ++ memberBytes x first second
+
+-- of a tail's part: "u8 count and serials thrown away", or else "u8 count and surfaces released"
+abbrev pub partCount : Moved → Bool → ℕ
+partCount m thrown = cond thrown (m .dropped) (m .freed)
+
+abbrev pub partNumbers : Moved → Bool → List ℕ
+partNumbers m thrown = cond thrown (serialNos (take (m .dropped) (m .thrown))) (surfaceNos (take (m .freed) (m .released)))
 
 -- the serials of a list
 abbrev pub listIn : RefList → List Serial

@@ -1,6 +1,6 @@
 // Begin: its refusals in their order, and its five steps.
 use crate::Answer;
-use crate::HEAD;
+use crate::FRONT;
 use crate::Refusal;
 use crate::records;
 use crate::replies;
@@ -11,7 +11,7 @@ use derivation::poc;
 use derivation::poc::Poc;
 use derivation::ref_lists::Refs;
 use format::kinds;
-use format::records::Head;
+use format::records::BeginFields;
 use paper::Current;
 use paper::Limits;
 use paper::Prev;
@@ -49,7 +49,7 @@ pub(crate) struct Start {
 }
 
 // Step 1 of a begin, the flags (8.1.3, C.5.2.2).
-fn flags_of(start: bool, ended: bool, h: Head) -> Flags
+fn flags_of(start: bool, ended: bool, h: BeginFields) -> Flags
     ensures { λ r. ⌜ r ≡ flagsFrom start ended h ⌝ }
 {
     let rasl = nal::no_rasl_output(h.nal, start, ended);
@@ -88,7 +88,7 @@ fn prev_for(over: bool, q: Prev) -> Prev
 }
 
 // The picture that a begin makes current.
-fn current_of(next: Serial, h: Head, t: Start) -> Current
+fn current_of(next: Serial, h: BeginFields, t: Start) -> Current
     ensures { λ r. ⌜ r ≡ currentFrom (next .0) h t ⌝ }
 {
     let surface = h.surface;
@@ -138,82 +138,87 @@ fn refs_of(x: Sizes) -> Refs
 // Steps 4 and 5 of a begin that nothing refuses: marks and sets, then the room that is made for the picture. Writes the
 // reply and the words of the session after it.
 fn begun(
-    head: &mut [u32; HEAD],
-    run: &mut [u32; Store::CAPACITY],
-    places: &mut [u32; Store::WORDS],
+    front: &mut [u32; FRONT],
+    sets: &mut [u32; Store::CAPACITY],
+    store: &mut [u32; Store::WORDS],
     msg: &[u8],
     l: Limits,
-    h: Head,
+    h: BeginFields,
     t: Start,
     pocs: &[i32; Store::CAPACITY],
     hows: &[u8; Store::CAPACITY],
     reply: &mut [u8],
 ) -> Answer
-    requires { ⌜ Wished (sessionIn (memory (now head) (now run) (now places))) (now msg) l h t (now pocs) (now hows)
+    requires { ⌜ Wished (sessionIn (memory (now front) (now sets) (now store))) (now msg) l h t (now pocs) (now hows)
         × Roomy (now reply) ⌝ }
-    ensures { λ r. ⌜ Calls (λ s. beginOf s (fieldsOf (now (msg .entry)))) head run places reply r ⌝ }
+    ensures { λ r. ⌜ Calls (λ s. beginOf s (fieldsOf (now (msg .entry)))) front sets store reply r ⌝ }
 {
     let f = t.flags;
     let over = f.over;
     let neg = h.neg as usize;
     let pos = h.pos as usize;
     let lt = h.lt as usize;
-    let d = store::derive_and_mark_rps(places, l.k, over, pocs, hows, neg, pos, lt);
+    let d = store::derive_and_mark_rps(store, l.k, over, pocs, hows, neg, pos, lt);
     let x = d.sizes;
-    let us = d.first;
-    let vs = d.second;
+    let first = d.first;
+    let second = d.second;
     let marked = d.store;
-    let starts = over & !words::is_ended(head);
-    let m = store::update_dpb_before_decoding(places, marked, starts, f.prior, l);
-    derivation::members::put_members(run, us, x.before + x.after + x.long);
-    let next = words::next_serial(head);
-    let a = replies::put_begun(reply, told_of(next, t), x, us, vs, m);
-    words::put_begun(head, current_of(next, h, t), refs_of(x), next_after(next.0));
+    let starts = over & !words::is_ended(front);
+    let m = store::update_dpb_before_decoding(store, marked, starts, f.prior, l);
+    derivation::members::put_members(sets, first, x.before + x.after + x.long);
+    let next = words::next_serial(front);
+    let a = replies::put_begun(reply, told_of(next, t), x, first, second, m);
+    words::put_begun(
+        front,
+        current_of(next, h, t),
+        refs_of(x),
+        next_after(next.0),
+    );
     a
 }
 
 // Step 3 of a begin whose POC lies in i32: reads what its entries ask for. Refused by 6, else goes on to step 4.
 fn begin_at(
-    head: &mut [u32; HEAD],
-    run: &mut [u32; Store::CAPACITY],
-    places: &mut [u32; Store::WORDS],
+    front: &mut [u32; FRONT],
+    sets: &mut [u32; Store::CAPACITY],
+    store: &mut [u32; Store::WORDS],
     msg: &[u8],
     l: Limits,
-    h: Head,
+    h: BeginFields,
     t: Start,
     reply: &mut [u8],
 ) -> Answer
-    requires { ⌜ Placed (sessionIn (memory (now head) (now run) (now places))) (now msg) l h t × Roomy (now reply) ⌝ }
-    ensures { λ r. ⌜ Calls (λ s. beginOf s (fieldsOf (now (msg .entry)))) head run places reply r ⌝ }
+    requires { ⌜ Placed (sessionIn (memory (now front) (now sets) (now store))) (now msg) l h t × Roomy (now reply) ⌝ }
+    ensures { λ r. ⌜ Calls (λ s. beginOf s (fieldsOf (now (msg .entry)))) front sets store reply r ⌝ }
 {
     let mut pocs = [0i32; Store::CAPACITY];
     let mut hows = [0u8; Store::CAPACITY];
     if !records::wishes(msg, h, l.k, t.poc, &mut pocs, &mut hows) {
         return replies::refuse(reply, kinds::BEGUN, Refusal::Outside);
     }
-    begun(head, run, places, msg, l, h, t, &pocs, &hows, reply)
+    begun(front, sets, store, msg, l, h, t, &pocs, &hows, reply)
 }
 
 // Steps 1 and 2 of a begin that none of 1, 3, 5, 8 and 7 refuses: flags and POC. Refused by 6, else goes on to step 3.
 fn begin_inside(
-    head: &mut [u32; HEAD],
-    run: &mut [u32; Store::CAPACITY],
-    places: &mut [u32; Store::WORDS],
+    front: &mut [u32; FRONT],
+    sets: &mut [u32; Store::CAPACITY],
+    store: &mut [u32; Store::WORDS],
     msg: &[u8],
     l: Limits,
-    h: Head,
+    h: BeginFields,
     reply: &mut [u8],
 ) -> Answer
-    requires { ⌜ Passed (sessionIn (memory (now head) (now run) (now places))) (now msg) l h × Roomy (now reply) ⌝ }
-    ensures { λ r. ⌜ Calls (λ s. beginOf s (fieldsOf (now (msg .entry)))) head run places reply r ⌝ }
+    requires { ⌜ Passed (sessionIn (memory (now front) (now sets) (now store))) (now msg) l h × Roomy (now reply) ⌝ }
+    ensures { λ r. ⌜ Calls (λ s. beginOf s (fieldsOf (now (msg .entry)))) front sets store reply r ⌝ }
 {
-    let q = words::prev_in(head);
-    let flags = flags_of(words::is_first(head), words::is_ended(head), h);
+    let q = words::prev_in(front);
+    let flags = flags_of(words::is_first(front), words::is_ended(front), h);
     match poc::derive_poc(l.k, prev_for(flags.over, q), h.lsb) {
         Poc::Outside => replies::refuse(reply, kinds::BEGUN, Refusal::Outside),
         Poc::Val { msb, poc } => {
             let t = Start { flags, msb, poc };
-            begin_at(head, run, places, msg, l, h, t, reply)
+            begin_at(front, sets, store, msg, l, h, t, reply)
         }
     }
 }
@@ -221,32 +226,32 @@ fn begin_inside(
 // Begin: refused by the first of "1, 3, 5, 8, 7, 6" that applies. The limits and the fields of the record are read once
 // and handed on.
 pub(crate) fn begin(
-    head: &mut [u32; HEAD],
-    run: &mut [u32; Store::CAPACITY],
-    places: &mut [u32; Store::WORDS],
+    front: &mut [u32; FRONT],
+    sets: &mut [u32; Store::CAPACITY],
+    store: &mut [u32; Store::WORDS],
     msg: &[u8],
     reply: &mut [u8],
 ) -> Answer
     requires { ⌜ Roomy (now reply) ⌝ }
-    ensures { λ r. ⌜ Calls (λ s. beginOf s (fieldsOf (now (msg .entry)))) head run places reply r ⌝ }
+    ensures { λ r. ⌜ Calls (λ s. beginOf s (fieldsOf (now (msg .entry)))) front sets store reply r ⌝ }
 {
-    if !words::is_configured(head) {
+    if !words::is_configured(front) {
         return replies::refuse(reply, kinds::BEGUN, Refusal::Unconfigured);
     }
-    if words::is_busy(head) {
+    if words::is_busy(front) {
         return replies::refuse(reply, kinds::BEGUN, Refusal::Busy);
     }
-    let l = words::limits_in(head);
-    let h = format::records::head_of(msg);
+    let l = words::limits_in(front);
+    let h = format::records::begin_fields(msg);
     if !records::begin_ranges(msg, h, l.k) {
         return replies::refuse(reply, kinds::BEGUN, Refusal::OutOfRange);
     }
-    if words::next_serial(head).0 == Store::MISSING {
+    if words::next_serial(front).0 == Store::MISSING {
         return replies::refuse(reply, kinds::BEGUN, Refusal::SerialsSpent);
     }
     let surface = h.surface;
-    if store::holds_surface(places, surface) {
+    if store::holds_surface(store, surface) {
         return replies::refuse(reply, kinds::BEGUN, Refusal::SurfaceHeld);
     }
-    begin_inside(head, run, places, msg, l, h, reply)
+    begin_inside(front, sets, store, msg, l, h, reply)
 }

@@ -1,6 +1,6 @@
 // The calls after begin: finish, drain, configure, discard, end of sequence, abandon.
 use crate::Answer;
-use crate::HEAD;
+use crate::FRONT;
 use crate::Refusal;
 use crate::replies;
 use crate::words;
@@ -24,9 +24,9 @@ ghost use Rattle.paper.specs.State.{isCurrent};
 ghost use Rattle.paper.specs.declared.Now.the-variants.{Idle, Is};
 ghost use Rattle.paper.specs.Calls.{prevAfter, full};
 ghost use Rattle.paper.specs.Step.{configureOf, finishOf, drainOf, discardOf, endOf, abandonOf};
-ghost use Rattle.store.specs.Shelf.{stored};
+ghost use Rattle.store.specs.StoreWords.{stored};
 ghost use Rattle.session.specs.View.{memory, sessionIn, nowAt};
-ghost use Rattle.session.specs.Said.{CallsStore, CallsHead, Drains, Roomy};
+ghost use Rattle.session.specs.Said.{CallsStore, CallsFront, Drains, Roomy};
 
 // The previous Tid0 picture once c is finished, where it was q before: "If valid .. it becomes the previous Tid0
 // picture."
@@ -43,10 +43,10 @@ fn prev_after(q: Prev, c: Current) -> Prev
 }
 
 // Whether no further picture may be stored.
-fn is_full(places: &[u32; Store::WORDS], l: Limits) -> bool
-    ensures { λ r. ⌜ r ≡ leb (min (l .capacity) 16) (length (stored (now (places .entry)))) ⌝ }
+fn is_full(store: &[u32; Store::WORDS], l: Limits) -> bool
+    ensures { λ r. ⌜ r ≡ leb (min (l .capacity) 16) (length (stored (now (store .entry)))) ⌝ }
 {
-    match store::room_in(places, l) {
+    match store::room_in(store, l) {
         Room::Full => true,
         Room::Enough => false,
     }
@@ -54,182 +54,182 @@ fn is_full(places: &[u32; Store::WORDS], l: Limits) -> bool
 
 // Finish where c is the current picture: refused by 9, or stores it.
 fn finish_at(
-    head: &mut [u32; HEAD],
-    places: &mut [u32; Store::WORDS],
+    front: &mut [u32; FRONT],
+    store: &mut [u32; Store::WORDS],
     c: Current,
     reply: &mut [u8],
 ) -> Answer
-    requires { ⌜ (nowAt (now head) ≡ Is c) × Roomy (now reply) ⌝ }
-    ensures { λ r. ⌜ CallsStore finishOf head places reply r ⌝ }
+    requires { ⌜ (nowAt (now front) ≡ Is c) × Roomy (now reply) ⌝ }
+    ensures { λ r. ⌜ CallsStore finishOf front store reply r ⌝ }
 {
-    let l = words::limits_in(head);
-    if is_full(places, l) {
+    let l = words::limits_in(front);
+    if is_full(store, l) {
         return replies::refuse(reply, kinds::FINISHED, Refusal::StoreFull);
     }
-    let m = store::finish_picture(places, c, l);
-    let q = words::prev_in(head);
-    words::put_idle(head, prev_after(q, c));
+    let m = store::finish_picture(store, c, l);
+    let q = words::prev_in(front);
+    words::put_idle(front, prev_after(q, c));
     replies::put_done(reply, kinds::FINISHED, m)
 }
 
 // Finish (C.5.2.3): refused by 4 with no current picture, then by 9.
 pub(crate) fn finish(
-    head: &mut [u32; HEAD],
-    places: &mut [u32; Store::WORDS],
+    front: &mut [u32; FRONT],
+    store: &mut [u32; Store::WORDS],
     reply: &mut [u8],
 ) -> Answer
     requires { ⌜ Roomy (now reply) ⌝ }
-    ensures { λ r. ⌜ CallsStore finishOf head places reply r ⌝ }
+    ensures { λ r. ⌜ CallsStore finishOf front store reply r ⌝ }
 {
-    match words::now_in(head) {
+    match words::now_in(front) {
         Now::Idle => replies::refuse(reply, kinds::FINISHED, Refusal::NoCurrent),
-        Now::Is(c) => finish_at(head, places, c, reply),
+        Now::Is(c) => finish_at(front, store, c, reply),
     }
 }
 
 // Whether drain and configure are refused by 9: a picture is current, so it must be stored, and the store is full.
-fn is_stuck(head: &[u32; HEAD], places: &[u32; Store::WORDS]) -> bool
-    ensures { λ r. ⌜ ((xs : List ℕ) → r ≡ (isCurrent (nowAt (now (head .entry)))
-        && full (sessionIn (memory (now (head .entry)) xs (now (places .entry)))))) ⌝ }
+fn is_stuck(front: &[u32; FRONT], store: &[u32; Store::WORDS]) -> bool
+    ensures { λ r. ⌜ ((xs : List ℕ) → r ≡ (isCurrent (nowAt (now (front .entry)))
+        && full (sessionIn (memory (now (front .entry)) xs (now (store .entry)))))) ⌝ }
 {
-    let l = words::limits_in(head);
-    words::is_busy(head) & is_full(places, l)
+    let l = words::limits_in(front);
+    words::is_busy(front) & is_full(store, l)
 }
 
 // A drain with no current picture: empties the store and writes a reply of kind `kind`.
 fn drain_idle(
-    head: &mut [u32; HEAD],
-    places: &mut [u32; Store::WORDS],
+    front: &mut [u32; FRONT],
+    store: &mut [u32; Store::WORDS],
     kind: u16,
     reply: &mut [u8],
 ) -> Answer
-    requires { ⌜ (nowAt (now head) ≡ Idle) × Roomy (now reply) ⌝ }
-    ensures { λ r. ⌜ Drains kind head places reply r ⌝ }
+    requires { ⌜ (nowAt (now front) ≡ Idle) × Roomy (now reply) ⌝ }
+    ensures { λ r. ⌜ Drains kind front store reply r ⌝ }
 {
-    let m = store::drain(places);
-    let q = words::prev_in(head);
-    words::put_idle(head, q);
+    let m = store::drain(store);
+    let q = words::prev_in(front);
+    words::put_idle(front, q);
     replies::put_done(reply, kind, m)
 }
 
 // A drain where c is the current picture: finishes it, empties the store and writes a reply of kind `kind`.
 fn drain_current(
-    head: &mut [u32; HEAD],
-    places: &mut [u32; Store::WORDS],
+    front: &mut [u32; FRONT],
+    store: &mut [u32; Store::WORDS],
     c: Current,
     kind: u16,
     reply: &mut [u8],
 ) -> Answer
-    requires { ⌜ (nowAt (now head) ≡ Is c) × (length (stored (now places)) < 16) × Roomy (now reply) ⌝ }
-    ensures { λ r. ⌜ Drains kind head places reply r ⌝ }
+    requires { ⌜ (nowAt (now front) ≡ Is c) × (length (stored (now store)) < 16) × Roomy (now reply) ⌝ }
+    ensures { λ r. ⌜ Drains kind front store reply r ⌝ }
 {
-    let l = words::limits_in(head);
-    let m = store::finish_and_drain(places, c, l);
-    let q = words::prev_in(head);
-    words::put_idle(head, prev_after(q, c));
+    let l = words::limits_in(front);
+    let m = store::finish_and_drain(store, c, l);
+    let q = words::prev_in(front);
+    words::put_idle(front, prev_after(q, c));
     replies::put_done(reply, kind, m)
 }
 
 // A drain that nothing refuses: finishes a current picture, empties the store and writes a reply of kind `kind`.
 fn drain_as(
-    head: &mut [u32; HEAD],
-    places: &mut [u32; Store::WORDS],
+    front: &mut [u32; FRONT],
+    store: &mut [u32; Store::WORDS],
     kind: u16,
     reply: &mut [u8],
 ) -> Answer
-    requires { ⌜ (isCurrent (nowAt (now head)) ≡ true → length (stored (now places)) < 16)
+    requires { ⌜ (isCurrent (nowAt (now front)) ≡ true → length (stored (now store)) < 16)
         × Roomy (now reply) ⌝ }
-    ensures { λ r. ⌜ Drains kind head places reply r ⌝ }
+    ensures { λ r. ⌜ Drains kind front store reply r ⌝ }
 {
-    match words::now_in(head) {
-        Now::Idle => drain_idle(head, places, kind, reply),
-        Now::Is(c) => drain_current(head, places, c, kind, reply),
+    match words::now_in(front) {
+        Now::Idle => drain_idle(front, store, kind, reply),
+        Now::Is(c) => drain_current(front, store, c, kind, reply),
     }
 }
 
 // Drain: refused by 9. "Drain finishes a current picture, then empties."
 pub(crate) fn drain(
-    head: &mut [u32; HEAD],
-    places: &mut [u32; Store::WORDS],
+    front: &mut [u32; FRONT],
+    store: &mut [u32; Store::WORDS],
     reply: &mut [u8],
 ) -> Answer
     requires { ⌜ Roomy (now reply) ⌝ }
-    ensures { λ r. ⌜ CallsStore drainOf head places reply r ⌝ }
+    ensures { λ r. ⌜ CallsStore drainOf front store reply r ⌝ }
 {
-    if is_stuck(head, places) {
+    if is_stuck(front, store) {
         return replies::refuse(reply, kinds::DRAINED, Refusal::StoreFull);
     }
-    drain_as(head, places, kinds::DRAINED, reply)
+    drain_as(front, store, kinds::DRAINED, reply)
 }
 
 // Configure: refused by 2, then by 9. "Configure drains under the old limits, then takes the new and forgets the
 // previous Tid0 picture."
 pub(crate) fn configure(
-    head: &mut [u32; HEAD],
-    places: &mut [u32; Store::WORDS],
+    front: &mut [u32; FRONT],
+    store: &mut [u32; Store::WORDS],
     msg: &[u8],
     reply: &mut [u8],
 ) -> Answer
     requires { ⌜ Roomy (now reply) ⌝ }
-    ensures { λ r. ⌜ CallsStore (λ s. configureOf s (limitsOf (now (msg .entry)))) head places reply r ⌝ }
+    ensures { λ r. ⌜ CallsStore (λ s. configureOf s (limitsOf (now (msg .entry)))) front store reply r ⌝ }
 {
     let l = records::limits_of(msg);
     if !ranges::configure_ranges(l) {
         return replies::refuse(reply, kinds::CONFIGURED, Refusal::BadLimits);
     }
-    if is_stuck(head, places) {
+    if is_stuck(front, store) {
         return replies::refuse(reply, kinds::CONFIGURED, Refusal::StoreFull);
     }
-    let a = drain_as(head, places, kinds::CONFIGURED, reply);
-    words::put_idle(head, Prev::Nothing);
-    words::put_limits(head, ranges::taken_limits(l));
+    let a = drain_as(front, store, kinds::CONFIGURED, reply);
+    words::put_idle(front, Prev::Nothing);
+    words::put_limits(front, ranges::taken_limits(l));
     a
 }
 
 // Discard, which nothing refuses: "Discard throws away and releases the current picture first, then clears."
 pub(crate) fn discard(
-    head: &mut [u32; HEAD],
-    places: &mut [u32; Store::WORDS],
+    front: &mut [u32; FRONT],
+    store: &mut [u32; Store::WORDS],
     reply: &mut [u8],
 ) -> Answer
     requires { ⌜ Roomy (now reply) ⌝ }
-    ensures { λ r. ⌜ CallsStore discardOf head places reply r ⌝ }
+    ensures { λ r. ⌜ CallsStore discardOf front store reply r ⌝ }
 {
-    let x = words::now_in(head);
-    let q = words::prev_in(head);
-    let m = store::discard(places, x);
-    words::put_idle(head, q);
+    let x = words::now_in(front);
+    let q = words::prev_in(front);
+    let m = store::discard(store, x);
+    words::put_idle(front, q);
     replies::put_done(reply, kinds::DISCARDED, m)
 }
 
 // End of sequence, which nothing refuses: the next begin is first after it.
-pub(crate) fn end(head: &mut [u32; HEAD], reply: &mut [u8]) -> Answer
+pub(crate) fn end(front: &mut [u32; FRONT], reply: &mut [u8]) -> Answer
     requires { ⌜ Roomy (now reply) ⌝ }
-    ensures { λ r. ⌜ CallsHead endOf head reply r ⌝ }
+    ensures { λ r. ⌜ CallsFront endOf front reply r ⌝ }
 {
-    words::put_ended(head);
+    words::put_ended(front);
     replies::put_quiet(reply, kinds::ENDED)
 }
 
 // Abandon where c is the current picture.
-fn abandon_at(head: &mut [u32; HEAD], c: Current, reply: &mut [u8]) -> Answer
-    requires { ⌜ (nowAt (now head) ≡ Is c) × Roomy (now reply) ⌝ }
-    ensures { λ r. ⌜ CallsHead abandonOf head reply r ⌝ }
+fn abandon_at(front: &mut [u32; FRONT], c: Current, reply: &mut [u8]) -> Answer
+    requires { ⌜ (nowAt (now front) ≡ Is c) × Roomy (now reply) ⌝ }
+    ensures { λ r. ⌜ CallsFront abandonOf front reply r ⌝ }
 {
     let m = store::abandon(c);
-    let q = words::prev_in(head);
-    words::put_idle(head, q);
+    let q = words::prev_in(front);
+    words::put_idle(front, q);
     replies::put_done(reply, kinds::ABANDONED, m)
 }
 
 // Abandon: refused by 4 with no current picture. "Abandon throws away and releases the current picture; marks and
 // outputs of its begin stay."
-pub(crate) fn abandon(head: &mut [u32; HEAD], reply: &mut [u8]) -> Answer
+pub(crate) fn abandon(front: &mut [u32; FRONT], reply: &mut [u8]) -> Answer
     requires { ⌜ Roomy (now reply) ⌝ }
-    ensures { λ r. ⌜ CallsHead abandonOf head reply r ⌝ }
+    ensures { λ r. ⌜ CallsFront abandonOf front reply r ⌝ }
 {
-    match words::now_in(head) {
+    match words::now_in(front) {
         Now::Idle => replies::refuse(reply, kinds::ABANDONED, Refusal::NoCurrent),
-        Now::Is(c) => abandon_at(head, c, reply),
+        Now::Is(c) => abandon_at(front, c, reply),
     }
 }

@@ -18,8 +18,8 @@ ghost use Rattle.session.specs.Said.{Permitted};
 use format::kinds;
 use store::Store;
 
-// How many words a session has beside its store and its sets; heads.rt says what each of them is.
-pub const HEAD: usize = 23;
+// How many words a session has beside its sets and its store; words.rt says what each of them is.
+pub const FRONT: usize = 23;
 
 // "The call answers the refusal number, 0 when accepted, and the reply's length in bytes."
 pub struct Answer {
@@ -69,31 +69,31 @@ pub fn number(r: Refusal) -> u16
 
 // Makes the memory a session that has heard no record, whatever it held.
 pub fn fresh(
-    head: &mut [u32; HEAD],
+    front: &mut [u32; FRONT],
     sets: &mut [u32; Store::CAPACITY],
-    places: &mut [u32; Store::WORDS],
+    store: &mut [u32; Store::WORDS],
 )
-    ensures session { λ _. ⌜ sessionIn (memory (now (head .exit)) (now (sets .exit)) (now (places .exit)))
+    ensures session { λ _. ⌜ sessionIn (memory (now (front .exit)) (now (sets .exit)) (now (store .exit)))
         ≡ freshSession ⌝ }
-    ensures normal { λ _. ⌜ NormalMemory (memory (now (head .exit)) (now (sets .exit)) (now (places .exit))) ⌝ }
+    ensures normal { λ _. ⌜ NormalMemory (memory (now (front .exit)) (now (sets .exit)) (now (store .exit))) ⌝ }
     ensures blank { λ _. ⌜ now (sets .exit) ≡ replicate 16 0 ⌝ }
 {
-    words::put_fresh(head);
+    words::put_fresh(front);
     *sets = [0; Store::CAPACITY];
-    store::forget_all(places);
+    store::forget_all(store);
 }
 
 // One call, on a record: refused by 14, then by 13, and else answered by the call that its kind names.
 pub fn step(
-    head: &mut [u32; HEAD],
+    front: &mut [u32; FRONT],
     sets: &mut [u32; Store::CAPACITY],
-    places: &mut [u32; Store::WORDS],
+    store: &mut [u32; Store::WORDS],
     msg: &[u8],
     reply: &mut [u8],
 ) -> Answer
     ensures { λ r. ⌜ Permitted
-        (memory (now (head .entry)) (now (sets .entry)) (now (places .entry))) (now (msg .entry)) (now (reply .entry))
-        r (memory (now (head .exit)) (now (sets .exit)) (now (places .exit))) (now (reply .exit)) ⌝ }
+        (memory (now (front .entry)) (now (sets .entry)) (now (store .entry))) (now (msg .entry)) (now (reply .entry))
+        r (memory (now (front .exit)) (now (sets .exit)) (now (store .exit))) (now (reply .exit)) ⌝ }
 {
     if reply.len() < Store::REPLY {
         return Answer {
@@ -102,14 +102,14 @@ pub fn step(
         };
     }
     match format::records::kind_of(msg) {
-        kinds::CONFIGURE => calls::configure(head, places, msg, reply),
-        kinds::BEGIN => begin::begin(head, sets, places, msg, reply),
-        kinds::LISTS => lists::lists(head, sets, msg, reply),
-        kinds::FINISH => calls::finish(head, places, reply),
-        kinds::DRAIN => calls::drain(head, places, reply),
-        kinds::DISCARD => calls::discard(head, places, reply),
-        kinds::END => calls::end(head, reply),
-        kinds::ABANDON => calls::abandon(head, reply),
+        kinds::CONFIGURE => calls::configure(front, store, msg, reply),
+        kinds::BEGIN => begin::begin(front, sets, store, msg, reply),
+        kinds::LISTS => lists::lists(front, sets, msg, reply),
+        kinds::FINISH => calls::finish(front, store, reply),
+        kinds::DRAIN => calls::drain(front, store, reply),
+        kinds::DISCARD => calls::discard(front, store, reply),
+        kinds::END => calls::end(front, reply),
+        kinds::ABANDON => calls::abandon(front, reply),
         _ => replies::refuse(reply, kinds::MALFORMED, Refusal::Malformed),
     }
 }

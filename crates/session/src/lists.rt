@@ -1,6 +1,6 @@
 // Lists: its refusals in their order, and the two reference lists (8.3.4).
 use crate::Answer;
-use crate::HEAD;
+use crate::FRONT;
 use crate::Refusal;
 use crate::replies;
 use crate::words;
@@ -10,7 +10,7 @@ use derivation::ref_lists::Refs;
 use format::kinds;
 use format::records;
 use format::records::Ask;
-use format::records::SliceHead;
+use format::records::SliceFields;
 use paper::Current;
 use paper::Now;
 use paper::Serial;
@@ -55,7 +55,7 @@ fn active_ok(a: Ask) -> bool
 }
 
 // Whether every field of a lists record is within its range. If one is not, lists is refused by 5.
-fn lists_ranges(h: SliceHead) -> bool
+fn lists_ranges(h: SliceFields) -> bool
     ensures { λ r. ⌜ ((f : Slice) → ReadsAs h f → r ≡ listsRanges f) ⌝ }
 {
     let x = h.ask0;
@@ -72,30 +72,30 @@ fn entry_count(a: Ask) -> usize
 
 // Whether an entry byte of list 0 or of list 1 is not below n, the number of candidates. If one is, lists is refused
 // by 12.
-fn bad_entries(msg: &[u8], h: SliceHead, n: usize) -> bool
+fn bad_entries(msg: &[u8], h: SliceFields, n: usize) -> bool
     requires { ⌜ WellFormed 3 (now msg) × ReadsAs h (sliceOf (now msg)) ⌝ }
     ensures { λ r. ⌜ r ≡ (anyB (λ (e : ℕ). leb n e) (sliceOf (now (msg .entry)) .ask0 .entries)
         || anyB (λ (e : ℕ). leb n e) (sliceOf (now (msg .entry)) .ask1 .entries)) ⌝ }
 {
     let x = h.ask0;
     let y = h.ask1;
-    let a = 8 + entry_count(x);
+    let a = kinds::ENTRY_BYTES_PLACE + entry_count(x);
     let b = a + entry_count(y);
-    ref_lists::bad_entry(&msg[8..a], n) | ref_lists::bad_entry(&msg[a..b], n)
+    ref_lists::bad_entry(&msg[kinds::ENTRY_BYTES_PLACE..a], n) | ref_lists::bad_entry(&msg[a..b], n)
 }
 
 // The first refusal of "5, 10, 11 for list 0 then 1, 12 likewise" that applies, if one does.
-fn judged(run: &[u32; Store::CAPACITY], refs: Refs, msg: &[u8], h: SliceHead) -> Verdict
+fn judged(sets: &[u32; Store::CAPACITY], refs: Refs, msg: &[u8], h: SliceFields) -> Verdict
     requires { ⌜ WellFormed 3 (now msg) × ReadsAs h (sliceOf (now msg)) ⌝ }
     ensures { λ r. ⌜ ((c : Serial) → numberIn r
-        ≡ listsNumber (refsIn (now (run .entry)) refs) c (sliceOf (now (msg .entry)))) ⌝ }
+        ≡ listsNumber (refsIn (now (sets .entry)) refs) c (sliceOf (now (msg .entry)))) ⌝ }
 {
     if !lists_ranges(h) {
         return Verdict::No(Refusal::OutOfRange);
     }
     let x = h.ask0;
     let y = h.ask1;
-    let n = ref_lists::candidate_count(run, refs, h.own);
+    let n = ref_lists::candidate_count(sets, refs, h.own);
     if x.uses & (n == 0) {
         return Verdict::No(Refusal::NoCandidate);
     }
@@ -110,26 +110,26 @@ fn judged(run: &[u32; Store::CAPACITY], refs: Refs, msg: &[u8], h: SliceHead) ->
 
 // List 0 of an accepted record; empty where the slice does not use it.
 fn first_list(
-    run: &[u32; Store::CAPACITY],
+    sets: &[u32; Store::CAPACITY],
     refs: Refs,
     c: Serial,
     msg: &[u8],
-    h: SliceHead,
+    h: SliceFields,
 ) -> RefList
     requires { ⌜ WellFormed 3 (now msg) × ReadsAs h (sliceOf (now msg))
-        × (listsNumber (refsIn (now run) refs) c (sliceOf (now msg)) ≡ 0) ⌝ }
-    ensures { λ r. ⌜ HoldsList r (list0 (refsIn (now (run .entry)) refs) c (sliceOf (now (msg .entry)))) ⌝ }
+        × (listsNumber (refsIn (now sets) refs) c (sliceOf (now msg)) ≡ 0) ⌝ }
+    ensures { λ r. ⌜ HoldsList r (list0 (refsIn (now (sets .entry)) refs) c (sliceOf (now (msg .entry)))) ⌝ }
 {
     let x = h.ask0;
     if !x.uses {
         return ref_lists::no_list();
     }
     let own = h.own;
-    let n = ref_lists::candidate_count(run, refs, own);
+    let n = ref_lists::candidate_count(sets, refs, own);
     let last = ref_lists::ends_with_own(own, x.modify, x.active, n);
-    let e = 8 + entry_count(x);
+    let e = kinds::ENTRY_BYTES_PLACE + entry_count(x);
     ref_lists::build_ref_pic_list(
-        run,
+        sets,
         refs,
         c,
         own,
@@ -137,21 +137,21 @@ fn first_list(
         last,
         x.active,
         x.modify,
-        &msg[8..e],
+        &msg[kinds::ENTRY_BYTES_PLACE..e],
     )
 }
 
 // List 1 of an accepted record; empty where the slice does not use it.
 fn second_list(
-    run: &[u32; Store::CAPACITY],
+    sets: &[u32; Store::CAPACITY],
     refs: Refs,
     c: Serial,
     msg: &[u8],
-    h: SliceHead,
+    h: SliceFields,
 ) -> RefList
     requires { ⌜ WellFormed 3 (now msg) × ReadsAs h (sliceOf (now msg))
-        × (listsNumber (refsIn (now run) refs) c (sliceOf (now msg)) ≡ 0) ⌝ }
-    ensures { λ r. ⌜ HoldsList r (list1 (refsIn (now (run .entry)) refs) c (sliceOf (now (msg .entry)))) ⌝ }
+        × (listsNumber (refsIn (now sets) refs) c (sliceOf (now msg)) ≡ 0) ⌝ }
+    ensures { λ r. ⌜ HoldsList r (list1 (refsIn (now (sets .entry)) refs) c (sliceOf (now (msg .entry)))) ⌝ }
 {
     let y = h.ask1;
     if !y.uses {
@@ -159,10 +159,10 @@ fn second_list(
     }
     let own = h.own;
     let x = h.ask0;
-    let a = 8 + entry_count(x);
+    let a = kinds::ENTRY_BYTES_PLACE + entry_count(x);
     let b = a + entry_count(y);
     ref_lists::build_ref_pic_list(
-        run,
+        sets,
         refs,
         c,
         own,
@@ -176,60 +176,60 @@ fn second_list(
 
 // Makes both lists of an accepted record and writes the reply.
 fn listed(
-    run: &[u32; Store::CAPACITY],
+    sets: &[u32; Store::CAPACITY],
     refs: Refs,
     c: Serial,
     msg: &[u8],
-    h: SliceHead,
+    h: SliceFields,
     reply: &mut [u8],
 ) -> Answer
     requires { ⌜ WellFormed 3 (now msg) × ReadsAs h (sliceOf (now msg))
-        × (listsNumber (refsIn (now run) refs) c (sliceOf (now msg)) ≡ 0) × Roomy (now reply) ⌝ }
+        × (listsNumber (refsIn (now sets) refs) c (sliceOf (now msg)) ≡ 0) × Roomy (now reply) ⌝ }
     ensures { λ r. ⌜ Says (bytesOf (Listed
-        (list0 (refsIn (now (run .entry)) refs) c (sliceOf (now (msg .entry))))
-        (list1 (refsIn (now (run .entry)) refs) c (sliceOf (now (msg .entry))))))
+        (list0 (refsIn (now (sets .entry)) refs) c (sliceOf (now (msg .entry))))
+        (list1 (refsIn (now (sets .entry)) refs) c (sliceOf (now (msg .entry))))))
         (now (reply .entry)) r (now (reply .exit)) ⌝ }
 {
-    let x = first_list(run, refs, c, msg, h);
-    let y = second_list(run, refs, c, msg, h);
+    let x = first_list(sets, refs, c, msg, h);
+    let y = second_list(sets, refs, c, msg, h);
     replies::put_lists(reply, x, y)
 }
 
 // Lists where c is the current picture. The record is read once and handed on.
 fn lists_at(
-    run: &[u32; Store::CAPACITY],
+    sets: &[u32; Store::CAPACITY],
     refs: Refs,
     c: Current,
     msg: &[u8],
     reply: &mut [u8],
 ) -> Answer
     requires { ⌜ WellFormed 3 (now msg) × Roomy (now reply) ⌝ }
-    ensures { λ r. ⌜ ((s : P.Session) → s .refs ≡ refsIn (now (run .entry)) refs
+    ensures { λ r. ⌜ ((s : P.Session) → s .refs ≡ refsIn (now (sets .entry)) refs
         → Answers (listsAt s (sliceOf (now (msg .entry))) c) (now (reply .entry)) r (now (reply .exit))) ⌝ }
 {
     let serial = c.serial;
-    let h = records::slice_head(msg);
-    match judged(run, refs, msg, h) {
+    let h = records::slice_fields(msg);
+    match judged(sets, refs, msg, h) {
         Verdict::No(why) => replies::refuse(reply, kinds::LISTED, why),
-        Verdict::Fine => listed(run, refs, serial, msg, h, reply),
+        Verdict::Fine => listed(sets, refs, serial, msg, h, reply),
     }
 }
 
 // Lists (8.3.4): refused by 4 with no current picture. Nothing of the session changes.
 pub(crate) fn lists(
-    head: &[u32; HEAD],
-    run: &[u32; Store::CAPACITY],
+    front: &[u32; FRONT],
+    sets: &[u32; Store::CAPACITY],
     msg: &[u8],
     reply: &mut [u8],
 ) -> Answer
     requires { ⌜ WellFormed 3 (now msg) × Roomy (now reply) ⌝ }
     ensures { λ r. ⌜ ((t : List ℕ) → Answers
-        (listsOf (sessionIn (memory (now (head .entry)) (now (run .entry)) t)) (sliceOf (now (msg .entry))))
+        (listsOf (sessionIn (memory (now (front .entry)) (now (sets .entry)) t)) (sliceOf (now (msg .entry))))
         (now (reply .entry)) r (now (reply .exit))) ⌝ }
 {
-    let refs = words::refs_in(head);
-    match words::now_in(head) {
+    let refs = words::refs_in(front);
+    match words::now_in(front) {
         Now::Idle => replies::refuse(reply, kinds::LISTED, Refusal::NoCurrent),
-        Now::Is(c) => lists_at(run, refs, c, msg, reply),
+        Now::Is(c) => lists_at(sets, refs, c, msg, reply),
     }
 }

@@ -2,8 +2,9 @@
 use derivation::ranges;
 use derivation::wishes;
 use derivation::wishes::Wanted;
+use format::kinds;
 use format::records;
-use format::records::Head;
+use format::records::BeginFields;
 use paper::ShortEntry;
 use store::Store;
 ghost use mathlib.Core.Path.{_≡_};
@@ -12,10 +13,11 @@ ghost use Prim.Native.Nat.{ℕ, _+_, _*_, _^_, _≤_, _<_, min};
 ghost use lib.ListN.{length};
 ghost use lib.IntN.{pos};
 ghost use Rattle.paper.specs.Words.{allB, table};
+ghost use Rattle.paper.specs.Kinds.{entriesPlace, shortWidth};
 ghost use Rattle.paper.specs.Records.{fieldsOf, shortAt, longAt};
 ghost use Rattle.paper.specs.Ranges.{longOk, falling, rising, beginRanges};
 ghost use Rattle.paper.specs.Sets.{wishesOf};
-ghost use Rattle.format.specs.Reads.{headOf};
+ghost use Rattle.format.specs.Reads.{beginFields};
 ghost use Rattle.session.specs.Parts.{shortsAt, longsAt, Wants, WantsAll, HoldsWishes};
 
 // Whether the n short-term entries from byte `at` on are in range as negative ones: "Neg deltas −524,288 to −1,
@@ -73,30 +75,30 @@ fn longs_all(msg: &[u8], k: u8, at: usize, n: usize) -> bool
 }
 
 // Whether every field of a begin is within its range. If one is not, begin is refused by 5.
-pub(crate) fn begin_ranges(msg: &[u8], h: Head, k: u8) -> bool
-    requires { ⌜ h ≡ headOf (now msg) ⌝ }
+pub(crate) fn begin_ranges(msg: &[u8], h: BeginFields, k: u8) -> bool
+    requires { ⌜ h ≡ beginFields (now msg) ⌝ }
     ensures { λ r. ⌜ r ≡ beginRanges (2 ^ (min k 16)) (fieldsOf (now (msg .entry))) ⌝ }
 {
     let neg = h.neg as usize;
     let pos = h.pos as usize;
     let lt = h.lt as usize;
-    if !ranges::head_ranges(k, h.nal, h.tid, h.flags, h.lsb, neg + pos + lt) {
+    if !ranges::field_ranges(k, h.nal, h.tid, h.flags, h.lsb, neg + pos + lt) {
         return false;
     }
-    let longs = longs_all(msg, k, 16 + 5 * (neg + pos), lt);
-    longs & (falling_all(msg, 16, neg) & rising_all(msg, 16 + 5 * neg, pos))
+    let longs = longs_all(
+        msg,
+        k,
+        kinds::ENTRIES_PLACE + kinds::SHORT_WIDTH * (neg + pos),
+        lt,
+    );
+    longs
+        & (falling_all(msg, kinds::ENTRIES_PLACE, neg)
+            & rising_all(msg, kinds::ENTRIES_PLACE + kinds::SHORT_WIDTH * neg, pos))
 }
 
-// Proof helper: states that the array has 16 POCs; compiles to nothing.
-fn count_pocs(pocs: [i32; Store::CAPACITY]) -> usize
-    ensures { λ r. ⌜ (r ≡ 16) × (length pocs ≡ 16) ⌝ }
-{
-    Store::CAPACITY
-}
-
-// Proof helper: states that the array has 16 bytes; compiles to nothing.
-fn count_hows(hows: [u8; Store::CAPACITY]) -> usize
-    ensures { λ r. ⌜ (r ≡ 16) × (length hows ≡ 16) ⌝ }
+// Proof helper: states that each array has 16 places; compiles to nothing.
+fn count_wishes(pocs: [i32; Store::CAPACITY], hows: [u8; Store::CAPACITY]) -> usize
+    ensures { λ r. ⌜ (r ≡ 16) × (length pocs ≡ 16) × (length hows ≡ 16) ⌝ }
 {
     Store::CAPACITY
 }
@@ -115,8 +117,7 @@ fn want(
     match w {
         Wanted::Outside => false,
         Wanted::Is(x) => {
-            count_pocs(*pocs);
-            count_hows(*hows);
+            count_wishes(*pocs, *hows);
             let poc = x.poc;
             pocs[i] = poc;
             hows[i] = how_of(x.used, x.whole);
@@ -143,13 +144,13 @@ fn want_shorts(
     hows: &mut [u8; Store::CAPACITY],
 ) -> bool
     requires { ⌜ n ≤ 16 ⌝ }
-    ensures { λ r. ⌜ WantsAll (shortsAt poc (now (msg .entry)) 16 n) 0
+    ensures { λ r. ⌜ WantsAll (shortsAt poc (now (msg .entry)) entriesPlace n) 0
         (now (pocs .entry)) (now (hows .entry)) r (now (pocs .exit)) (now (hows .exit)) ⌝ }
 {
     let mut inside = true;
     let mut i = 0;
     while i < n {
-        let w = wishes::short_wish(poc, records::short_entry(msg, 16, i));
+        let w = wishes::short_wish(poc, records::short_entry(msg, kinds::ENTRIES_PLACE, i));
         inside = want(w, i, pocs, hows) & inside;
         i += 1;
     }
@@ -168,10 +169,10 @@ fn want_longs(
     hows: &mut [u8; Store::CAPACITY],
 ) -> bool
     requires { ⌜ from + n ≤ 16 ⌝ }
-    ensures { λ r. ⌜ WantsAll (longsAt (2 ^ (min k 16)) poc (now (msg .entry)) (16 + 5 * from) n) from
+    ensures { λ r. ⌜ WantsAll (longsAt (2 ^ (min k 16)) poc (now (msg .entry)) (entriesPlace + shortWidth * from) n) from
         (now (pocs .entry)) (now (hows .entry)) r (now (pocs .exit)) (now (hows .exit)) ⌝ }
 {
-    let at = 16 + 5 * from;
+    let at = kinds::ENTRIES_PLACE + kinds::SHORT_WIDTH * from;
     let mut inside = true;
     let mut i = 0;
     while i < n {
@@ -186,13 +187,13 @@ fn want_longs(
 // i32. If one does not, begin is refused by 6.
 pub(crate) fn wishes(
     msg: &[u8],
-    h: Head,
+    h: BeginFields,
     k: u8,
     poc: i32,
     pocs: &mut [i32; Store::CAPACITY],
     hows: &mut [u8; Store::CAPACITY],
 ) -> bool
-    requires { ⌜ (h ≡ headOf (now msg)) × (h .neg + h .pos + h .lt ≤ 16) ⌝ }
+    requires { ⌜ (h ≡ beginFields (now msg)) × (h .neg + h .pos + h .lt ≤ 16) ⌝ }
     ensures { λ r. ⌜ HoldsWishes (wishesOf (2 ^ (min k 16)) poc (fieldsOf (now (msg .entry))))
         (h .neg) (h .pos) (h .lt) r (now (pocs .exit)) (now (hows .exit)) ⌝ }
 {

@@ -16,14 +16,14 @@ ghost use Prim.Native.Nat.{_+_, _*_, _≤_};
 ghost use lib.ListN.{length, take};
 ghost use lib.Seq.{sets};
 ghost use Rattle.paper.specs.Words.{flat};
-ghost use Rattle.paper.specs.Numbers.{bytes16, serialNos, surfaceNos};
+ghost use Rattle.paper.specs.Numbers.{bytes16};
 ghost use Rattle.paper.specs.Kinds.{beginKind, replyTo, restPlace, wordWidth, shownWidth, begunCounts};
 ghost use Rattle.paper.specs.Replies.{shownBytes, words, tailBytes, framed, bytesOf};
 ghost use Rattle.paper.specs.Replies.Reply.{Listed};
 ghost use Rattle.paper.specs.Output.{quiet};
 ghost use Rattle.store.specs.Tails.{tailIn, GoodTail};
 ghost use Rattle.session.specs.Written.{numbersFrom, toldBytes, sizesBytes, memberBytes, begunPart, listIn};
-ghost use Rattle.session.specs.Written.{FewMembers, Listable};
+ghost use Rattle.session.specs.Written.{FewMembers, Listable, partCount, partNumbers};
 ghost use Rattle.session.specs.Numbered.{numberOf};
 ghost use Rattle.session.specs.Said.{Roomy, Says, Refuses};
 
@@ -77,36 +77,24 @@ fn put_handed(d: &mut [u8], at: usize, m: Moved) -> usize
     a + kinds::SHOWN * n
 }
 
-// "u8 count and serials thrown away".
-fn put_thrown(d: &mut [u8], at: usize, m: Moved) -> usize
-    requires { ⌜ GoodTail m × (at + 1 + wordWidth * m .dropped ≤ length (now d)) ⌝ }
-    ensures { λ r. ⌜ (r ≡ at + (1 + wordWidth * m .dropped))
-        × (now (d .exit) ≡ sets (now (d .entry)) at
-        (m .dropped ∷ words (serialNos (take (m .dropped) (m .thrown))))) ⌝ }
+// "u8 count and serials thrown away", or else "u8 count and surfaces released".
+fn put_part(d: &mut [u8], at: usize, m: Moved, thrown: bool) -> usize
+    requires { ⌜ GoodTail m × (at + 1 + wordWidth * partCount m thrown ≤ length (now d)) ⌝ }
+    ensures { λ r. ⌜ (r ≡ at + (1 + wordWidth * partCount m thrown))
+        × (now (d .exit) ≡ sets (now (d .entry)) at (partCount m thrown ∷ words (partNumbers m thrown))) ⌝ }
 {
-    let n = m.dropped;
+    let n = if thrown { m.dropped } else { m.freed };
     let a = wire::put_u8(d, at, n as u8);
     let mut i = 0;
     while i < n {
-        let x = m.thrown[i];
-        wire::put_u32(d, a + kinds::WORD * i, x.0);
-        i += 1;
-    }
-    a + kinds::WORD * n
-}
-
-// "u8 count and surfaces released".
-fn put_released(d: &mut [u8], at: usize, m: Moved) -> usize
-    requires { ⌜ GoodTail m × (at + 1 + wordWidth * m .freed ≤ length (now d)) ⌝ }
-    ensures { λ r. ⌜ (r ≡ at + (1 + wordWidth * m .freed))
-        × (now (d .exit) ≡ sets (now (d .entry)) at (m .freed ∷ words (surfaceNos (take (m .freed) (m .released))))) ⌝ }
-{
-    let n = m.freed;
-    let a = wire::put_u8(d, at, n as u8);
-    let mut i = 0;
-    while i < n {
-        let x = m.released[i];
-        wire::put_u32(d, a + kinds::WORD * i, x.0);
+        let x = if thrown {
+            let y = m.thrown[i];
+            y.0
+        } else {
+            let y = m.released[i];
+            y.0
+        };
+        wire::put_u32(d, a + kinds::WORD * i, x);
         i += 1;
     }
     a + kinds::WORD * n
@@ -127,21 +115,6 @@ fn put_run(d: &mut [u8], at: usize, xs: [Serial; Store::CAPACITY], from: usize, 
     at + kinds::WORD * n
 }
 
-// Writes the first n serials of a list.
-fn put_serials(d: &mut [u8], at: usize, xs: [Serial; Store::CAPACITY], n: usize) -> usize
-    requires { ⌜ (n ≤ 16) × (at + wordWidth * n ≤ length (now d)) ⌝ }
-    ensures { λ r. ⌜ (r ≡ at + wordWidth * n)
-        × (now (d .exit) ≡ sets (now (d .entry)) at (words (serialNos (take n xs)))) ⌝ }
-{
-    let mut i = 0;
-    while i < n {
-        let x = xs[i];
-        wire::put_u32(d, at + kinds::WORD * i, x.0);
-        i += 1;
-    }
-    at + kinds::WORD * n
-}
-
 // A tail: what was handed out, thrown away and released.
 fn put_tail(d: &mut [u8], at: usize, m: Moved) -> usize
     requires { ⌜ GoodTail m × (at + 350 ≤ length (now d)) ⌝ }
@@ -149,8 +122,8 @@ fn put_tail(d: &mut [u8], at: usize, m: Moved) -> usize
         × (now (d .exit) ≡ sets (now (d .entry)) at (tailBytes (tailIn m))) ⌝ }
 {
     let a = put_handed(d, at, m);
-    let b = put_thrown(d, a, m);
-    put_released(d, b, m)
+    let b = put_part(d, a, m, true);
+    put_part(d, b, m, false)
 }
 
 // The reply of kind `kind` to an accepted record: the refusal number 0 and a tail.
@@ -186,8 +159,8 @@ pub(crate) fn put_lists(d: &mut [u8], x: RefList, y: RefList) -> Answer
     let ys = y.items;
     let a = wire::put_u8(d, kinds::REST_PLACE, n as u8);
     let b = wire::put_u8(d, a, m as u8);
-    let c = put_serials(d, b, xs, n);
-    let len = put_serials(d, c, ys, m);
+    let c = put_run(d, b, xs, 0, n);
+    let len = put_run(d, c, ys, 0, m);
     put_head(d, (len - kinds::BODY_PLACE) as u16, kinds::LISTED, 0);
     Answer { number: 0, len }
 }
@@ -223,24 +196,24 @@ fn put_sizes(d: &mut [u8], at: usize, x: Sizes) -> usize
 }
 
 // "their members in that order as u32 serials". The members lie in two runs: StCurrBefore, StCurrAfter and LtCurr in
-// us, StFoll and LtFoll in vs.
+// first, StFoll and LtFoll in second.
 fn put_members(
     d: &mut [u8],
     at: usize,
     x: Sizes,
-    us: [Serial; Store::CAPACITY],
-    vs: [Serial; Store::CAPACITY],
+    first: [Serial; Store::CAPACITY],
+    second: [Serial; Store::CAPACITY],
 ) -> usize
     requires { ⌜ FewMembers x × (at + 64 ≤ length (now d)) ⌝ }
-    ensures { λ r. ⌜ (r ≡ at + length (memberBytes x us vs))
-        × (now (d .exit) ≡ sets (now (d .entry)) at (memberBytes x us vs)) ⌝ }
+    ensures { λ r. ⌜ (r ≡ at + length (memberBytes x first second))
+        × (now (d .exit) ≡ sets (now (d .entry)) at (memberBytes x first second)) ⌝ }
 {
     let n = x.before + x.after;
     let k = x.foll;
-    let a = put_run(d, at, us, 0, n);
-    let b = put_run(d, a, vs, 0, k);
-    let c = put_run(d, b, us, n, x.long);
-    put_run(d, c, vs, k, x.lt_foll)
+    let a = put_run(d, at, first, 0, n);
+    let b = put_run(d, a, second, 0, k);
+    let c = put_run(d, b, first, n, x.long);
+    put_run(d, c, second, k, x.lt_foll)
 }
 
 // The reply to an accepted begin.
@@ -248,17 +221,17 @@ pub(crate) fn put_begun(
     d: &mut [u8],
     t: Told,
     x: Sizes,
-    us: [Serial; Store::CAPACITY],
-    vs: [Serial; Store::CAPACITY],
+    first: [Serial; Store::CAPACITY],
+    second: [Serial; Store::CAPACITY],
     y: Moved,
 ) -> Answer
     requires { ⌜ FewMembers x × (GoodTail y × Roomy (now d)) ⌝ }
-    ensures { λ r. ⌜ Says (framed (replyTo beginKind) 0 (begunPart t x us vs ++ tailBytes (tailIn y)))
+    ensures { λ r. ⌜ Says (framed (replyTo beginKind) 0 (begunPart t x first second ++ tailBytes (tailIn y)))
         (now (d .entry)) r (now (d .exit)) ⌝ }
 {
     let a = put_told(d, kinds::REST_PLACE, t);
     let b = put_sizes(d, a, x);
-    let e = put_members(d, b, x, us, vs);
+    let e = put_members(d, b, x, first, second);
     let len = put_tail(d, e, y);
     put_head(d, (len - kinds::BODY_PLACE) as u16, kinds::BEGUN, 0);
     Answer { number: 0, len }

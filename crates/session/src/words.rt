@@ -1,6 +1,6 @@
-// `head`: the 23 words of a session beside its store and its sets. Here is the place of each, how it is read and how
-// it is written; no other file reads or writes one of them. HeadPlaces.antt names the same places for the contracts.
-use crate::HEAD;
+// `front`: the 23 words of a session beside its sets and its store. Here is the place of each, how it is read and how
+// it is written; no other file reads or writes one of them. FrontPlaces.antt names the same places for the contracts.
+use crate::FRONT;
 use derivation::ref_lists::Refs;
 use paper::Current;
 use paper::Limits;
@@ -15,11 +15,11 @@ ghost use Prim.Native.Nat.{_%_};
 ghost use lib.ListN.{length};
 ghost use Rattle.paper.specs.Numbers.{aSerial};
 ghost use Rattle.paper.specs.State.{fresh as freshSession};
-ghost use Rattle.store.specs.Shelf.{word, flagOf};
-ghost use Rattle.session.specs.HeadPlaces.{CONFIGURED, FIRST, ENDED, NEXT, CURRENT};
+ghost use Rattle.store.specs.StoreWords.{word, flagOf};
+ghost use Rattle.session.specs.FrontPlaces.{CONFIGURED, FIRST, ENDED, NEXT, CURRENT};
 ghost use Rattle.session.specs.View.{limitsAt, prevAt, currentAt, nowAt, refsAt};
 ghost use Rattle.session.specs.View.{Front, frontIn, idleFront, configuredFront, begunFront, endedFront};
-ghost use Rattle.session.specs.Laid.{headWords, frontOf, headOf};
+ghost use Rattle.session.specs.Laid.{frontWords, frontOf, frontWordsOf};
 
 // Words 0 to 3: whether configure was accepted, whether the next begin is first in the bitstream,
 // whether it is first after end of sequence, and its serial.
@@ -89,49 +89,49 @@ fn low16(x: u32) -> u16
 }
 
 // Proof helper: states that the array has 23 words; compiles to nothing.
-fn count_head(words: [u32; HEAD]) -> usize
+fn count_front(words: [u32; FRONT]) -> usize
     ensures { λ r. ⌜ (r ≡ 23) × (length words ≡ 23) ⌝ }
 {
-    HEAD
+    FRONT
 }
 
 // Whether configure was accepted.
-pub(crate) fn is_configured(h: &[u32; HEAD]) -> bool
+pub(crate) fn is_configured(h: &[u32; FRONT]) -> bool
     ensures { λ r. ⌜ r ≡ flagOf (word (now (h .entry)) CONFIGURED) ⌝ }
 {
     flag_of(h[CONFIGURED])
 }
 
 // Whether the next begin is first in the bitstream.
-pub(crate) fn is_first(h: &[u32; HEAD]) -> bool
+pub(crate) fn is_first(h: &[u32; FRONT]) -> bool
     ensures { λ r. ⌜ r ≡ flagOf (word (now (h .entry)) FIRST) ⌝ }
 {
     flag_of(h[FIRST])
 }
 
 // Whether the next begin is first after end of sequence.
-pub(crate) fn is_ended(h: &[u32; HEAD]) -> bool
+pub(crate) fn is_ended(h: &[u32; FRONT]) -> bool
     ensures { λ r. ⌜ r ≡ flagOf (word (now (h .entry)) ENDED) ⌝ }
 {
     flag_of(h[ENDED])
 }
 
 // The serial of the next begin.
-pub(crate) fn next_serial(h: &[u32; HEAD]) -> Serial
+pub(crate) fn next_serial(h: &[u32; FRONT]) -> Serial
     ensures { λ r. ⌜ r ≡ aSerial (word (now (h .entry)) NEXT) ⌝ }
 {
     Serial(h[NEXT])
 }
 
 // Whether a picture is current.
-pub(crate) fn is_busy(h: &[u32; HEAD]) -> bool
+pub(crate) fn is_busy(h: &[u32; FRONT]) -> bool
     ensures { λ r. ⌜ r ≡ flagOf (word (now (h .entry)) CURRENT) ⌝ }
 {
     flag_of(h[CURRENT])
 }
 
 // The limits that configure set.
-pub(crate) fn limits_in(h: &[u32; HEAD]) -> Limits
+pub(crate) fn limits_in(h: &[u32; FRONT]) -> Limits
     ensures { λ r. ⌜ r ≡ limitsAt (now (h .entry)) ⌝ }
 {
     let k = low8(h[K]);
@@ -149,7 +149,7 @@ pub(crate) fn limits_in(h: &[u32; HEAD]) -> Limits
 }
 
 // The previous Tid0 picture.
-pub(crate) fn prev_in(h: &[u32; HEAD]) -> Prev
+pub(crate) fn prev_in(h: &[u32; FRONT]) -> Prev
     ensures { λ r. ⌜ r ≡ prevAt (now (h .entry)) ⌝ }
 {
     let is = flag_of(h[PREV]);
@@ -163,7 +163,7 @@ pub(crate) fn prev_in(h: &[u32; HEAD]) -> Prev
 }
 
 // What the words say of the current picture; it means nothing where no picture is current.
-fn current_in(h: &[u32; HEAD]) -> Current
+fn current_in(h: &[u32; FRONT]) -> Current
     ensures { λ r. ⌜ r ≡ currentAt (now (h .entry)) ⌝ }
 {
     let poc = wire::signed(h[POC]);
@@ -183,7 +183,7 @@ fn current_in(h: &[u32; HEAD]) -> Current
 }
 
 // The current picture, or that there is none.
-pub(crate) fn now_in(h: &[u32; HEAD]) -> Now
+pub(crate) fn now_in(h: &[u32; FRONT]) -> Now
     ensures { λ r. ⌜ r ≡ nowAt (now (h .entry)) ⌝ }
 {
     let c = current_in(h);
@@ -191,7 +191,7 @@ pub(crate) fn now_in(h: &[u32; HEAD]) -> Now
 }
 
 // The sizes of the current picture's sets.
-pub(crate) fn refs_in(h: &[u32; HEAD]) -> Refs
+pub(crate) fn refs_in(h: &[u32; FRONT]) -> Refs
     ensures { λ r. ⌜ r ≡ refsAt (now (h .entry)) ⌝ }
 {
     let before = low8(h[BEFORE]);
@@ -205,20 +205,20 @@ pub(crate) fn refs_in(h: &[u32; HEAD]) -> Refs
 }
 
 // Writes the words of a session that has heard no record.
-pub(crate) fn put_fresh(h: &mut [u32; HEAD])
+pub(crate) fn put_fresh(h: &mut [u32; FRONT])
     ensures front { λ _. ⌜ frontIn (now (h .exit)) ≡ frontOf freshSession ⌝ }
-    ensures words { λ _. ⌜ now (h .exit) ≡ headOf freshSession ⌝ }
+    ensures words { λ _. ⌜ now (h .exit) ≡ frontWordsOf freshSession ⌝ }
 {
-    *h = [0; HEAD];
+    *h = [0; FRONT];
     h[FIRST] = 1;
 }
 
 // Writes that no picture is current and that q is the previous Tid0 picture.
-pub(crate) fn put_idle(h: &mut [u32; HEAD], q: Prev)
+pub(crate) fn put_idle(h: &mut [u32; FRONT], q: Prev)
     ensures front { λ _. ⌜ frontIn (now (h .exit)) ≡ idleFront (frontIn (now (h .entry))) q ⌝ }
-    ensures words { λ _. ⌜ ((f : Front) → now (h .entry) ≡ headWords f → now (h .exit) ≡ headWords (idleFront f q)) ⌝ }
+    ensures words { λ _. ⌜ ((f : Front) → now (h .entry) ≡ frontWords f → now (h .exit) ≡ frontWords (idleFront f q)) ⌝ }
 {
-    count_head(*h);
+    count_front(*h);
     h[CURRENT] = 0;
     h[SERIAL] = 0;
     h[SURFACE] = 0;
@@ -245,12 +245,12 @@ pub(crate) fn put_idle(h: &mut [u32; HEAD], q: Prev)
 }
 
 // Writes that configure was accepted, with these limits.
-pub(crate) fn put_limits(h: &mut [u32; HEAD], l: Limits)
+pub(crate) fn put_limits(h: &mut [u32; FRONT], l: Limits)
     ensures front { λ _. ⌜ frontIn (now (h .exit)) ≡ configuredFront (frontIn (now (h .entry))) l ⌝ }
-    ensures words { λ _. ⌜ ((f : Front) → now (h .entry) ≡ headWords f
-        → now (h .exit) ≡ headWords (configuredFront f l)) ⌝ }
+    ensures words { λ _. ⌜ ((f : Front) → now (h .entry) ≡ frontWords f
+        → now (h .exit) ≡ frontWords (configuredFront f l)) ⌝ }
 {
-    count_head(*h);
+    count_front(*h);
     h[CONFIGURED] = 1;
     h[K] = l.k as u32;
     h[CAPACITY] = l.capacity as u32;
@@ -261,12 +261,12 @@ pub(crate) fn put_limits(h: &mut [u32; HEAD], l: Limits)
 
 // Writes that c is the current picture and x the sizes of its sets; that the next begin is neither first in the
 // bitstream nor first after end of sequence; and that its serial is `next`.
-pub(crate) fn put_begun(h: &mut [u32; HEAD], c: Current, x: Refs, next: u32)
+pub(crate) fn put_begun(h: &mut [u32; FRONT], c: Current, x: Refs, next: u32)
     ensures front { λ _. ⌜ frontIn (now (h .exit)) ≡ begunFront (frontIn (now (h .entry))) c x next ⌝ }
-    ensures words { λ _. ⌜ ((f : Front) → now (h .entry) ≡ headWords f
-        → now (h .exit) ≡ headWords (begunFront f c x next)) ⌝ }
+    ensures words { λ _. ⌜ ((f : Front) → now (h .entry) ≡ frontWords f
+        → now (h .exit) ≡ frontWords (begunFront f c x next)) ⌝ }
 {
-    count_head(*h);
+    count_front(*h);
     let serial = c.serial;
     let surface = c.surface;
     h[FIRST] = 0;
@@ -286,10 +286,10 @@ pub(crate) fn put_begun(h: &mut [u32; HEAD], c: Current, x: Refs, next: u32)
 }
 
 // Writes that the next begin is first after end of sequence.
-pub(crate) fn put_ended(h: &mut [u32; HEAD])
+pub(crate) fn put_ended(h: &mut [u32; FRONT])
     ensures front { λ _. ⌜ frontIn (now (h .exit)) ≡ endedFront (frontIn (now (h .entry))) ⌝ }
-    ensures words { λ _. ⌜ ((f : Front) → now (h .entry) ≡ headWords f → now (h .exit) ≡ headWords (endedFront f)) ⌝ }
+    ensures words { λ _. ⌜ ((f : Front) → now (h .entry) ≡ frontWords f → now (h .exit) ≡ frontWords (endedFront f)) ⌝ }
 {
-    count_head(*h);
+    count_front(*h);
     h[ENDED] = 1;
 }

@@ -16,11 +16,11 @@ use Rattle.store.specs.Walks.{changeBy, unmarkIf}
 use Rattle.store.specs.Places.{placeAt, front, roomy}
 use Rattle.store.specs.declared.pictures.Change.the-variants as Change
 use Rattle.paper.specs.Output as Output
-use Rattle.store.specs.Shelf.{stored, NormalForm}
+use Rattle.store.specs.StoreWords.{stored, NormalForm}
 use Rattle.store.specs.Tails.{HoldsMoved}
 use Rattle.store.specs.Bumps.{Leaves}
 use Rattle.store.specs.declared.Moved.{Moved}
-use Rattle.store.proofs.Shelf.{table-more}
+use Rattle.store.proofs.StoreWords.{table-more}
 
 -- what a call left is what the words hold then
 pub leaves : {m : Output.Moved} {x : Moved} {t t′ : List ℕ} → HoldsMoved x m → (stored t′ ≡ front (x .places) (x .len)) × (NormalForm t → NormalForm t′) → Leaves m t t′ x

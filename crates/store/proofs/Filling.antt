@@ -24,7 +24,7 @@ use Rattle.store.specs.Walks.{blank}
 use Rattle.store.specs.Places.{placeAt, front}
 use Rattle.store.specs.Runs.{filled, changed, marking, HoldsRuns, GoodRuns, usedIn, restIn, picked, usedAt, unusedAt}
 use Rattle.store.specs.declared.sets.Runs.{Runs}
-use Rattle.store.proofs.Shelf.{table-same, table-map}
+use Rattle.store.proofs.StoreWords.{table-same, table-map}
 
 -- ---- n places from one on, each with what its number gives
 

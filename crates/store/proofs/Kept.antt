@@ -10,7 +10,7 @@ use Rattle.paper.specs.Words.{table, keep}
 use Rattle.paper.specs.declared.Picture.{Picture}
 use Rattle.store.specs.Walks.{blank}
 use Rattle.store.specs.Places.{placeAt, front}
-use Rattle.store.proofs.Shelf.{table-more, table-next}
+use Rattle.store.proofs.StoreWords.{table-more, table-next}
 
 module _ {A : Type 0} (f : A → Bool) where
   pub keep-append : (a b : List A) → keep f (a ++ b) ≡ keep f a ++ keep f b

@@ -1,4 +1,4 @@
-pub mod Shelf
+pub mod StoreWords
 pub mod Tidy
 pub mod SearchLaws
 pub mod RawPart

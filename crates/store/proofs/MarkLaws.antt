@@ -25,7 +25,7 @@ use Rattle.store.specs.declared.Sizes.{Sizes}
 use Rattle.store.specs.declared.sets.Runs.{Runs}
 use Rattle.store.specs.declared.sets.Settled.{Settled}
 use Rattle.store.proofs.SearchLaws.{first-long}
-use Rattle.store.proofs.Shelf.{table-same, table-map, table-join}
+use Rattle.store.proofs.StoreWords.{table-same, table-map, table-join}
 use Rattle.store.proofs.Walks.{any-append, member-first, take-front}
 use Rattle.store.proofs.Filling.{filled-length, filled-off, filled-at, changed-length, front-changed, picked-is}
 

@@ -16,7 +16,7 @@ use Rattle.store.specs.Walks.{other, quieted}
 use Rattle.store.specs.Places.{placeAt, front}
 use Rattle.store.specs.Bumps.{Scans, nothingSeen, seenBy, withoutIt, Bumps}
 use Rattle.store.specs.declared.bumping.Scan.{Scan}
-use Rattle.store.proofs.Shelf.{table-more}
+use Rattle.store.proofs.StoreWords.{table-more}
 use Rattle.store.proofs.Kept.{keep-take, keep-pass, put-other, put-same, put-more}
 use Rattle.store.proofs.Scans.{scan-none, scan-more, scan-same}
 

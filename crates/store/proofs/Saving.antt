@@ -10,9 +10,9 @@ use borrow.Author.Tests.{eqb-true, eqb-false}
 use Rattle.paper.proofs.Bools.{split}
 use Rattle.paper.specs.declared.Picture.{Picture}
 use Rattle.store.specs.Walks.{blank}
-use Rattle.store.specs.Shelf.{word, pictureAt, pictures, countIn, Puts, Tidy, NormalForm}
+use Rattle.store.specs.StoreWords.{word, pictureAt, pictures, countIn, Puts, Tidy, NormalForm}
 use Rattle.store.specs.Places.{placeAt, front}
-use Rattle.store.proofs.Shelf.{table-same, table-map}
+use Rattle.store.proofs.StoreWords.{table-same, table-map}
 use Rattle.store.proofs.Tidy.{puts-tidy, tidy-more}
 
 -- ---- reading

@@ -25,7 +25,7 @@ use Rattle.store.specs.Bumps.{Scans, foundIn, Within, nothingSeen, lower
 use Rattle.store.specs.declared.bumping.Lowest.{Lowest}
 use Rattle.store.specs.declared.bumping.Lowest.the-variants.{Nothing, At}
 use Rattle.store.specs.declared.bumping.Scan.{Scan}
-use Rattle.store.proofs.Shelf.{table-more, table-same}
+use Rattle.store.proofs.StoreWords.{table-more, table-same}
 use Rattle.store.proofs.Kept.{keep-take, keep-pass}
 use Rattle.store.proofs.Walks.{any-more}
 

@@ -12,8 +12,8 @@ use Rattle.paper.proofs.Bools.{split}
 use Rattle.paper.specs.declared.Picture.{Picture}
 use Rattle.derivation.proofs.Runs.{table-get}
 use Rattle.store.specs.Walks.{blank}
-use Rattle.store.specs.Shelf.{word, pictureAt, pictures, stored, countIn, wordsAt, pictureWords, Tidy, NormalForm, Puts}
-use Rattle.store.proofs.Shelf.{table-same, elsewhere, spells, neat-by, used-length}
+use Rattle.store.specs.StoreWords.{word, pictureAt, pictures, stored, countIn, wordsAt, pictureWords, Tidy, NormalForm, Puts}
+use Rattle.store.proofs.StoreWords.{table-same, elsewhere, spells, neat-by, used-length}
 
 -- a picture put at one of the first n places
 pub puts-tidy : {i n : ℕ} {p : Picture} {t t′ : List ℕ} → Puts i p t t′ → Tidy t n → i < n → Tidy t′ n

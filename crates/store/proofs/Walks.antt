@@ -20,7 +20,7 @@ use Rattle.store.specs.Walks.{blank, soughtFor, foundOf, memberOf}
 use Rattle.store.specs.declared.pictures.Sought.the-variants.{AnyAt, LowAt, ShortAt}
 use Rattle.store.specs.declared.Store.{Store}
 use Rattle.store.specs.Places.{placeAt, front, storedIn}
-use Rattle.store.proofs.Shelf.{table-more}
+use Rattle.store.proofs.StoreWords.{table-more}
 
 pub any-append : {A : Type 0} (f : A → Bool) (a b : List A) → anyB f (a ++ b) ≡ (anyB f a || anyB f b)
 unfolding anyB

@@ -9,7 +9,7 @@ use Rattle.paper.specs.Sets.{Wishes}
 use Rattle.paper.specs.declared.Picture.{Picture}
 use Rattle.store.specs.Places.{placeAt, front}
 use Rattle.paper.specs.Output as Output
-use Rattle.store.specs.Shelf.{stored}
+use Rattle.store.specs.StoreWords.{stored}
 use Rattle.store.specs.Tails.{HoldsTail}
 use Rattle.store.specs.Bumps.{Leaves}
 use Rattle.store.specs.Runs.{Derives}

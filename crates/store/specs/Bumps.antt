@@ -16,7 +16,7 @@ use Rattle.paper.specs.declared.Limits.{Limits}
 use Rattle.paper.specs.declared.Found.{Found}
 use Rattle.paper.specs.declared.Found.the-variants as Found
 use Rattle.store.specs.Walks.{lateBy, other}
-use Rattle.store.specs.Shelf.{stored, NormalForm}
+use Rattle.store.specs.StoreWords.{stored, NormalForm}
 use Rattle.store.specs.Places.{placeAt, front}
 use Rattle.store.specs.Tails.{HoldsTail, waits}
 use Rattle.store.specs.declared.Moved.{Moved}

@@ -1,5 +1,5 @@
 pub mod Walks
-pub mod Shelf
+pub mod StoreWords
 pub mod Places
 pub mod Tails
 pub mod Bumps

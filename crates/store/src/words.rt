@@ -14,8 +14,8 @@ ghost use Rattle.paper.specs.Output.{emptied, beforeDecoding};
 ghost use Rattle.paper.specs.Calls.{finished, drained, discarded};
 ghost use Rattle.paper.specs.declared.Now.the-variants.{Is};
 ghost use Rattle.store.specs.Walks.{blank, changeBy, unmarkIf};
-ghost use Rattle.store.specs.Shelf.{flagOf, flagWord, markOf, markWord, pictureAt, pictures, stored, countIn};
-ghost use Rattle.store.specs.Shelf.{Puts, Tidy, NormalForm};
+ghost use Rattle.store.specs.StoreWords.{flagOf, flagWord, markOf, markWord, pictureAt, pictures, stored, countIn};
+ghost use Rattle.store.specs.StoreWords.{Puts, Tidy, NormalForm};
 ghost use Rattle.store.specs.Places.{front, storedIn, roomy, roomOf, numberOfRoom};
 ghost use Rattle.store.specs.Bumps.{Leaves};
 ghost use Rattle.store.specs.Runs.{wishesWithin, Derives};
@@ -54,10 +54,10 @@ fn wide(x: u32) -> usize
 }
 
 // How many places are used.
-fn used_places(t: &[u32; Store::WORDS]) -> usize
-    ensures { λ r. ⌜ (r ≡ countIn (now (t .entry))) × (r ≤ 16) ⌝ }
+fn used_places(store: &[u32; Store::WORDS]) -> usize
+    ensures { λ r. ⌜ (r ≡ countIn (now (store .entry))) × (r ≤ 16) ⌝ }
 {
-    let n = wide(t[USED]);
+    let n = wide(store[USED]);
     if n < Store::CAPACITY {
         n
     } else {
@@ -66,13 +66,13 @@ fn used_places(t: &[u32; Store::WORDS]) -> usize
 }
 
 // Whether a picture more may be stored: number 9 compares with the capacity, over 16 taken as 16.
-pub fn room_in(t: &[u32; Store::WORDS], l: Limits) -> Room
-    ensures answer { λ r. ⌜ r ≡ roomOf (leb (min (l .capacity) 16) (length (stored (now (t .entry))))) ⌝ }
+pub fn room_in(store: &[u32; Store::WORDS], l: Limits) -> Room
+    ensures answer { λ r. ⌜ r ≡ roomOf (leb (min (l .capacity) 16) (length (stored (now (store .entry))))) ⌝ }
     ensures number { λ r. ⌜ numberOfRoom r ≡ cond
-        (leb (min (l .capacity) 16) (length (stored (now (t .entry))))) 9 0 ⌝ }
+        (leb (min (l .capacity) 16) (length (stored (now (store .entry))))) 9 0 ⌝ }
 {
     let most = l.capacity as usize;
-    let n = used_places(t);
+    let n = used_places(store);
     if (most <= n) | (Store::CAPACITY <= n) {
         Room::Full
     } else {
@@ -117,21 +117,21 @@ fn mark_word(m: Mark) -> u32
 }
 
 // The picture at a place.
-fn picture_at(t: &[u32; Store::WORDS], i: usize) -> Picture
+fn picture_at(store: &[u32; Store::WORDS], i: usize) -> Picture
     requires { ⌜ i < 16 ⌝ }
-    ensures { λ r. ⌜ r ≡ pictureAt (now (t .entry)) i ⌝ }
+    ensures { λ r. ⌜ r ≡ pictureAt (now (store .entry)) i ⌝ }
 {
     let at = PLACE * i;
-    let poc = wire::signed(t[at + 2]);
-    let mark = mark_of(t[at + 3]);
-    let waiting = flag_of(t[at + 4]);
+    let poc = wire::signed(store[at + 2]);
+    let mark = mark_of(store[at + 3]);
+    let waiting = flag_of(store[at + 4]);
     Picture {
-        serial: Serial(t[at]),
-        surface: Surface(t[at + 1]),
+        serial: Serial(store[at]),
+        surface: Surface(store[at + 1]),
         poc,
         mark,
         waiting,
-        count: t[at + 5],
+        count: store[at + 5],
     }
 }
 
@@ -143,65 +143,65 @@ fn count_words(words: [u32; Store::WORDS]) -> usize
 }
 
 // Puts a picture at a place.
-fn put_picture(t: &mut [u32; Store::WORDS], i: usize, p: Picture)
+fn put_picture(store: &mut [u32; Store::WORDS], i: usize, p: Picture)
     requires { ⌜ i < 16 ⌝ }
-    ensures { λ _. ⌜ Puts i p (now (t .entry)) (now (t .exit)) ⌝ }
+    ensures { λ _. ⌜ Puts i p (now (store .entry)) (now (store .exit)) ⌝ }
 {
-    count_words(*t);
+    count_words(*store);
     let at = PLACE * i;
     let serial = p.serial;
     let surface = p.surface;
     let mark = p.mark;
-    t[at] = serial.0;
-    t[at + 1] = surface.0;
-    t[at + 2] = wire::bits(p.poc);
-    t[at + 3] = mark_word(mark);
-    t[at + 4] = flag_word(p.waiting);
-    t[at + 5] = p.count;
+    store[at] = serial.0;
+    store[at + 1] = surface.0;
+    store[at + 2] = wire::bits(p.poc);
+    store[at + 3] = mark_word(mark);
+    store[at + 4] = flag_word(p.waiting);
+    store[at + 5] = p.count;
 }
 
 // A place holds nothing.
-fn put_blank(t: &mut [u32; Store::WORDS], i: usize)
+fn put_blank(store: &mut [u32; Store::WORDS], i: usize)
     requires { ⌜ i < 16 ⌝ }
-    ensures { λ _. ⌜ Puts i blank (now (t .entry)) (now (t .exit)) ⌝ }
+    ensures { λ _. ⌜ Puts i blank (now (store .entry)) (now (store .exit)) ⌝ }
 {
-    put_picture(t, i, none());
+    put_picture(store, i, none());
 }
 
 // Blanks places k to n − 1.
-fn blank_from(t: &mut [u32; Store::WORDS], k: usize, n: usize)
+fn blank_from(store: &mut [u32; Store::WORDS], k: usize, n: usize)
     requires { ⌜ (k ≤ n) × (n ≤ 16) ⌝ }
-    ensures kept { λ _. ⌜ pictures (now (t .exit)) k ≡ pictures (now (t .entry)) k ⌝ }
-    ensures tidy { λ _. ⌜ (Tidy (now (t .entry)) n → Tidy (now (t .exit)) k) ⌝ }
+    ensures kept { λ _. ⌜ pictures (now (store .exit)) k ≡ pictures (now (store .entry)) k ⌝ }
+    ensures tidy { λ _. ⌜ (Tidy (now (store .entry)) n → Tidy (now (store .exit)) k) ⌝ }
 {
     let mut i = n;
     while k < i {
         i -= 1;
-        put_blank(t, i);
+        put_blank(store, i);
     }
 }
 
 // The first n places are the store.
-fn set_used(t: &mut [u32; Store::WORDS], n: usize)
+fn set_used(store: &mut [u32; Store::WORDS], n: usize)
     requires { ⌜ n ≤ 16 ⌝ }
-    ensures pics { λ _. ⌜ stored (now (t .exit)) ≡ pictures (now (t .entry)) n ⌝ }
-    ensures normal { λ _. ⌜ (Tidy (now (t .entry)) n → NormalForm (now (t .exit))) ⌝ }
+    ensures pics { λ _. ⌜ stored (now (store .exit)) ≡ pictures (now (store .entry)) n ⌝ }
+    ensures normal { λ _. ⌜ (Tidy (now (store .entry)) n → NormalForm (now (store .exit))) ⌝ }
 {
-    count_words(*t);
-    t[USED] = n as u32;
+    count_words(*store);
+    store[USED] = n as u32;
 }
 
 // The store that the words hold, each picture changed as it is read.
-fn load(t: &[u32; Store::WORDS], x: Change) -> Store
-    ensures few { λ r. ⌜ (r .len ≡ countIn (now (t .entry))) × (r .len ≤ 16) ⌝ }
-    ensures holds { λ r. ⌜ front (r .places) (r .len) ≡ map (changeBy x) (stored (now (t .entry))) ⌝ }
+fn load(store: &[u32; Store::WORDS], x: Change) -> Store
+    ensures few { λ r. ⌜ (r .len ≡ countIn (now (store .entry))) × (r .len ≤ 16) ⌝ }
+    ensures holds { λ r. ⌜ front (r .places) (r .len) ≡ map (changeBy x) (stored (now (store .entry))) ⌝ }
 {
-    let n = used_places(t);
+    let n = used_places(store);
     let b = none();
     let mut places = [b; Store::CAPACITY];
     let mut i: usize = 0;
     while i < n {
-        places[i] = read_as(picture_at(t, i), x);
+        places[i] = read_as(picture_at(store, i), x);
         i += 1;
     }
     Store { places, len: n }
@@ -215,40 +215,40 @@ fn larger(a: usize, b: usize) -> usize
 }
 
 // The words hold the store that a call left; behind it they are blank.
-fn save(t: &mut [u32; Store::WORDS], m: Moved)
+fn save(store: &mut [u32; Store::WORDS], m: Moved)
     requires { ⌜ m .len ≤ 16 ⌝ }
-    ensures pics { λ _. ⌜ stored (now (t .exit)) ≡ front (m .places) (m .len) ⌝ }
-    ensures normal { λ _. ⌜ (NormalForm (now (t .entry)) → NormalForm (now (t .exit))) ⌝ }
+    ensures pics { λ _. ⌜ stored (now (store .exit)) ≡ front (m .places) (m .len) ⌝ }
+    ensures normal { λ _. ⌜ (NormalForm (now (store .entry)) → NormalForm (now (store .exit))) ⌝ }
 {
-    let was = used_places(t);
+    let was = used_places(store);
     let n = m.len;
     let mut i: usize = 0;
     while i < n {
         let p = m.places[i];
-        put_picture(t, i, p);
+        put_picture(store, i, p);
         i += 1;
     }
-    blank_from(t, n, larger(n, was));
-    set_used(t, n);
+    blank_from(store, n, larger(n, was));
+    set_used(store, n);
 }
 
 // The words hold an empty store, whatever they held.
-pub fn forget_all(t: &mut [u32; Store::WORDS])
-    ensures pics { λ _. ⌜ stored (now (t .exit)) ≡ [] ⌝ }
-    ensures normal { λ _. ⌜ NormalForm (now (t .exit)) ⌝ }
+pub fn forget_all(store: &mut [u32; Store::WORDS])
+    ensures pics { λ _. ⌜ stored (now (store .exit)) ≡ [] ⌝ }
+    ensures normal { λ _. ⌜ NormalForm (now (store .exit)) ⌝ }
 {
-    *t = [0; Store::WORDS];
-    save(t, operations::start(Store::empty()));
+    *store = [0; Store::WORDS];
+    save(store, operations::start(Store::empty()));
 }
 
 // Whether a stored picture holds the surface x (number 7).
-pub fn holds_surface(t: &[u32; Store::WORDS], x: Surface) -> bool
-    ensures { λ r. ⌜ r ≡ anyB (heldBy x) (stored (now (t .entry))) ⌝ }
+pub fn holds_surface(store: &[u32; Store::WORDS], x: Surface) -> bool
+    ensures { λ r. ⌜ r ≡ anyB (heldBy x) (stored (now (store .entry))) ⌝ }
 {
-    let n = used_places(t);
+    let n = used_places(store);
     let mut i: usize = 0;
     while i < n {
-        let p = picture_at(t, i);
+        let p = picture_at(store, i);
         if passes(Sought::HeldBy(x), p) {
             return true;
         }
@@ -271,7 +271,7 @@ fn unmarking(over: bool) -> Change
 // Step 4 of begin (8.3.2) on the store that the words hold, which stay: the store with its marks, and the sets. The
 // wishes are neg, pos and lt ones, one behind the other; a count over the places that are left counts as those.
 pub fn derive_and_mark_rps(
-    t: &[u32; Store::WORDS],
+    store: &[u32; Store::WORDS],
     k: u8,
     over: bool,
     pocs: &[i32; Store::CAPACITY],
@@ -280,65 +280,68 @@ pub fn derive_and_mark_rps(
     pos: usize,
     lt: usize,
 ) -> Derived
-    ensures { λ r. ⌜ Derives (2 ^ (min k 16)) (unmarkedIf over (stored (now (t .entry))))
+    ensures { λ r. ⌜ Derives (2 ^ (min k 16)) (unmarkedIf over (stored (now (store .entry))))
         (wishesWithin (now (pocs .entry)) (now (hows .entry)) neg pos lt) r ⌝ }
 {
     let n = fewer(neg, Store::CAPACITY);
     let p = fewer(pos, Store::CAPACITY - n);
     let q = fewer(lt, Store::CAPACITY - n - p);
-    sets::derive_and_mark_rps(load(t, unmarking(over)), k, pocs, hows, n, p, q)
+    sets::derive_and_mark_rps(load(store, unmarking(over)), k, pocs, hows, n, p, q)
 }
 
 // Step 5 of begin (C.5.2.2) on a store, which the words then hold.
 pub fn update_dpb_before_decoding(
-    t: &mut [u32; Store::WORDS],
+    store: &mut [u32; Store::WORDS],
     s: Store,
     starts: bool,
     no_prior: bool,
     l: Limits,
 ) -> Moved
-    ensures { λ r. ⌜ Leaves (beforeDecoding starts «no_prior» l (storedIn s)) (now (t .entry)) (now (t .exit)) r ⌝ }
+    ensures { λ r. ⌜ Leaves (beforeDecoding starts «no_prior» l (storedIn s)) (now (store .entry)) (now (store .exit))
+        r ⌝ }
 {
     let places = s.places;
     let n = used_in(s);
     let m = operations::update_dpb_before_decoding(Store { places, len: n }, starts, no_prior, l);
-    save(t, m);
+    save(store, m);
     m
 }
 
 // Finish (C.5.2.3): counts rise, the picture is stored, and others are handed out while due, without the buffering
 // test. Where every place is used it takes the last one; `room_in` tells before.
-pub fn finish_picture(t: &mut [u32; Store::WORDS], c: Current, l: Limits) -> Moved
-    ensures { λ r. ⌜ Leaves (finished l (roomy (stored (now (t .entry)))) c) (now (t .entry)) (now (t .exit)) r ⌝ }
+pub fn finish_picture(store: &mut [u32; Store::WORDS], c: Current, l: Limits) -> Moved
+    ensures { λ r. ⌜ Leaves (finished l (roomy (stored (now (store .entry)))) c) (now (store .entry))
+        (now (store .exit)) r ⌝ }
 {
-    let m = operations::finish_picture(load(t, Change::Raise), c, l);
-    save(t, m);
+    let m = operations::finish_picture(load(store, Change::Raise), c, l);
+    save(store, m);
     m
 }
 
 // Drain with a current picture: it is finished, then the store is emptied.
-pub fn finish_and_drain(t: &mut [u32; Store::WORDS], c: Current, l: Limits) -> Moved
-    ensures { λ r. ⌜ Leaves (drained l (roomy (stored (now (t .entry)))) (Is c)) (now (t .entry)) (now (t .exit)) r ⌝ }
+pub fn finish_and_drain(store: &mut [u32; Store::WORDS], c: Current, l: Limits) -> Moved
+    ensures { λ r. ⌜ Leaves (drained l (roomy (stored (now (store .entry)))) (Is c)) (now (store .entry))
+        (now (store .exit)) r ⌝ }
 {
-    let m = operations::finish_and_drain(load(t, Change::Raise), c, l);
-    save(t, m);
+    let m = operations::finish_and_drain(load(store, Change::Raise), c, l);
+    save(store, m);
     m
 }
 
 // Drain with no current picture: the store is emptied.
-pub fn drain(t: &mut [u32; Store::WORDS]) -> Moved
-    ensures { λ r. ⌜ Leaves (emptied (stored (now (t .entry)))) (now (t .entry)) (now (t .exit)) r ⌝ }
+pub fn drain(store: &mut [u32; Store::WORDS]) -> Moved
+    ensures { λ r. ⌜ Leaves (emptied (stored (now (store .entry)))) (now (store .entry)) (now (store .exit)) r ⌝ }
 {
-    let m = operations::drain(load(t, Change::Nothing));
-    save(t, m);
+    let m = operations::drain(load(store, Change::Nothing));
+    save(store, m);
     m
 }
 
 // Discard: the current picture is thrown away and released first, then the store is cleared.
-pub fn discard(t: &mut [u32; Store::WORDS], x: Now) -> Moved
-    ensures { λ r. ⌜ Leaves (discarded (stored (now (t .entry))) x) (now (t .entry)) (now (t .exit)) r ⌝ }
+pub fn discard(store: &mut [u32; Store::WORDS], x: Now) -> Moved
+    ensures { λ r. ⌜ Leaves (discarded (stored (now (store .entry))) x) (now (store .entry)) (now (store .exit)) r ⌝ }
 {
-    let m = operations::discard(load(t, Change::Nothing), x);
-    save(t, m);
+    let m = operations::discard(load(store, Change::Nothing), x);
+    save(store, m);
     m
 }

@@ -11,19 +11,19 @@
 #![no_std]
 
 /// How many words a session takes beside its sets and its store, of its sets and of its store, and in all.
-pub const HEAD: usize = 23;
+pub const FRONT: usize = 23;
 pub const SETS: usize = 16;
 pub const STORE: usize = 97;
-pub const WORDS: usize = HEAD + SETS + STORE;
+pub const WORDS: usize = FRONT + SETS + STORE;
 
 /// The least reply buffer, in bytes.
 pub const REPLY: usize = 512;
 
 extern "C" {
     fn trusshemp_session_size() -> usize;
-    fn trusshemp_fresh_in(head: *mut [u32; HEAD], sets: *mut [u32; SETS], store: *mut [u32; STORE]);
+    fn trusshemp_fresh_in(front: *mut [u32; FRONT], sets: *mut [u32; SETS], store: *mut [u32; STORE]);
     fn trusshemp_step_in(
-        head: *mut [u32; HEAD],
+        front: *mut [u32; FRONT],
         sets: *mut [u32; SETS],
         store: *mut [u32; STORE],
         record: *const u8,
@@ -44,7 +44,7 @@ pub struct Answer {
 /// One session. A clone goes on by itself.
 #[derive(Clone, Debug, PartialEq, Eq)]
 pub struct Session {
-    head: [u32; HEAD],
+    front: [u32; FRONT],
     sets: [u32; SETS],
     store: [u32; STORE],
 }
@@ -54,25 +54,25 @@ impl Session {
     pub fn new() -> Self {
         let mut session = Session::from_words([0; WORDS]);
         // SAFETY: each part is as long as the archive asks, and is lent to this call alone.
-        unsafe { trusshemp_fresh_in(&mut session.head, &mut session.sets, &mut session.store) };
+        unsafe { trusshemp_fresh_in(&mut session.front, &mut session.sets, &mut session.store) };
         session
     }
 
     /// The session that stands in these words. Any words are some session.
     pub fn from_words(words: [u32; WORDS]) -> Self {
-        let mut session = Session { head: [0; HEAD], sets: [0; SETS], store: [0; STORE] };
-        session.head.copy_from_slice(&words[..HEAD]);
-        session.sets.copy_from_slice(&words[HEAD..HEAD + SETS]);
-        session.store.copy_from_slice(&words[HEAD + SETS..]);
+        let mut session = Session { front: [0; FRONT], sets: [0; SETS], store: [0; STORE] };
+        session.front.copy_from_slice(&words[..FRONT]);
+        session.sets.copy_from_slice(&words[FRONT..FRONT + SETS]);
+        session.store.copy_from_slice(&words[FRONT + SETS..]);
         session
     }
 
     /// The session as words, to be kept and read again.
     pub fn words(&self) -> [u32; WORDS] {
         let mut words = [0; WORDS];
-        words[..HEAD].copy_from_slice(&self.head);
-        words[HEAD..HEAD + SETS].copy_from_slice(&self.sets);
-        words[HEAD + SETS..].copy_from_slice(&self.store);
+        words[..FRONT].copy_from_slice(&self.front);
+        words[FRONT..FRONT + SETS].copy_from_slice(&self.sets);
+        words[FRONT + SETS..].copy_from_slice(&self.store);
         words
     }
 
@@ -83,7 +83,7 @@ impl Session {
         // overlap, for all but the record's are `&mut`.
         let number = unsafe {
             trusshemp_step_in(
-                &mut self.head,
+                &mut self.front,
                 &mut self.sets,
                 &mut self.store,
                 record.as_ptr(),

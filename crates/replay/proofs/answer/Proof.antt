@@ -12,11 +12,11 @@ use Rattle.replay.proofs.answer.Statement.{statement}
 use Rattle.replay.proofs.answer.Tie as tie
 
 abbrev Inv-loop : tie.InvT-loop
-Inv-loop head₀ sets₀ places₀ bytes replies₀ taken₀ made₀ head sets places replies taken made =
-    (taken ≤ length bytes) × (made ≤ length replies) × (length replies ≡ length replies₀) × Answers (memory head₀ sets₀ places₀) bytes (memory head sets places) taken made replies₀ replies
+Inv-loop front₀ sets₀ store₀ bytes replies₀ taken₀ made₀ front sets store replies taken made =
+    (taken ≤ length bytes) × (made ≤ length replies) × (length replies ≡ length replies₀) × Answers (memory front₀ sets₀ store₀) bytes (memory front sets store) taken made replies₀ replies
 
 abbrev μ-loop : tie.MeasureT-loop
-μ-loop head₀ sets₀ places₀ bytes replies₀ taken₀ made₀ head sets places replies taken made = length bytes - taken
+μ-loop front₀ sets₀ store₀ bytes replies₀ taken₀ made₀ front sets store replies taken made = length bytes - taken
 
 loop-holds : tie.Need-loop-holds Inv-loop μ-loop
 loop-holds c = (omega arith, omega arith, refl, nothing-yet _ _ _)

@@ -14,11 +14,11 @@ use Rattle.replay.proofs.run.Statement.{statement}
 use Rattle.replay.proofs.run.Tie as tie
 
 abbrev Inv-loop : tie.InvT-loop
-Inv-loop head₀ sets₀ places₀ input₀ output₀ t₀ left₀ head sets places input output t left =
-    (t .held ≤ length input) × (length input ≡ length input₀) × (length output ≡ length output₀) × (t .more ≡ true) × Reached Starts Turns (standing (memory head sets places) t input output)
+Inv-loop front₀ sets₀ store₀ input₀ output₀ t₀ left₀ front sets store input output t left =
+    (t .held ≤ length input) × (length input ≡ length input₀) × (length output ≡ length output₀) × (t .more ≡ true) × Reached Starts Turns (standing (memory front sets store) t input output)
 
 abbrev μ-loop : tie.MeasureT-loop
-μ-loop head₀ sets₀ places₀ input₀ output₀ t₀ left₀ head sets places input output t left = left
+μ-loop front₀ sets₀ store₀ input₀ output₀ t₀ left₀ front sets store input output t left = left
 
 fresh-requires : tie.Need-fresh-requires Inv-loop μ-loop
 fresh-requires c κs = search needs

@@ -16,7 +16,7 @@ unfolding refsIn
 returns c =
     let e = c .forget-all .ensures in
     let h = c .before .before .before .put-fresh .ensures in
-    (rw (h .0, e .0), (record { head = rw (h .0) (h .1); places = e .1 }, refl))
+    (rw (h .0, e .0), (record { front = rw (h .0) (h .1); store = e .1 }, refl))
 
 pub fresh-spec : {M : Type 1} → statement M
 fresh-spec = tie.close (tie.spec put-fresh-requires forget-all-requires returns)

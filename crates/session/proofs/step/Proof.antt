@@ -101,7 +101,7 @@ returns-10 : tie.Need-returns-10
 returns-10 c =
     let k = c .before .before .before .before in
     let a = k .before .before .before .before .before .args in
-    let m = memory (now (a .head)) (now (a .sets)) (now (a .places)) in
+    let m = memory (now (a .front)) (now (a .sets)) (now (a .store)) in
     let n = k .match .rest in
     let w = malformed (now (a .msg)) (k .before .kind-of .ensures) (n .0 .0 .0 .0 .0 .0 .0 .1) (n .0 .0 .0 .0 .0 .0 .1) (n .0 .0 .0 .0 .0 .1) (n .0 .0 .0 .0 .1) (n .0 .0 .0 .1) (n .0 .0 .1) (n .0 .1) (n .1) in
     permitted _ (k .before .before .if1 .left) (decides-13 (sessionIn m) (now (a .msg)) w) (does-refuse refl (c .before .before .refuse .ensures))

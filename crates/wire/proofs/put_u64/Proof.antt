@@ -27,9 +27,11 @@ same-length c = search needs
 returns : tie.Need-returns
 unfolding bytes32
 returns c =
-    let s = c .before .before .before .before .before .before .before .before .before in
-    let lower = c .before .before .before .before .before .before .put-u32 .ensures in
-    let upper = c .before .before .put-u322 .ensures in
+    let at-put-u322 = c .before .before in
+    let at-put-u32 = at-put-u322 .before .before .before .before in
+    let s = at-put-u32 .before .before .before in
+    let lower = at-put-u32 .put-u32 .ensures in
+    let upper = at-put-u322 .put-u322 .ensures in
     (omega (arith, lower .0, upper .0), runs (now (s .args .d)) (bytes32 (s .args .x % 4294967296)) (bytes32 (s .args .x / 4294967296)) (s .args .at) _ (lower .1) (upper .1) (sym (lower .0)))
 
 pub put-u64-spec : {M : Type 1} → statement M

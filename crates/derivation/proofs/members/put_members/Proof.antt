@@ -1,4 +1,4 @@
--- `derivation::run::put_members`: the members walked over stand in their words, the words behind them are as they were, and behind 16 there is no member in either.
+-- `derivation::members::put_members`: the members walked over stand in their words, the words behind them are as they were, and behind 16 there is no member in either.
 use mathlib.Core.Path.{_≡_, refl, sym, ap, _∙_}
 use mathlib.Core.Bool.{Bool, true, false}
 use mathlib.Core.List.{List}
@@ -18,30 +18,30 @@ use Rattle.derivation.proofs.members.put_members.Statement.{statement}
 use Rattle.derivation.proofs.members.put_members.Tie as tie
 
 -- of sixteen words and sixteen serials those at 16 and behind are blank
-sixteen : (run : List ℕ) (xs : List Serial) (j : ℕ) → length run ≡ 16 → length xs ≡ 16 → (j < 16 → serialAt run j ≡ memberAt xs j) → serialAt run j ≡ memberAt xs j
-sixteen run xs j l m f = by (ltb j 16) refl
+sixteen : (sets : List ℕ) (xs : List Serial) (j : ℕ) → length sets ≡ 16 → length xs ≡ 16 → (j < 16 → serialAt sets j ≡ memberAt xs j) → serialAt sets j ≡ memberAt xs j
+sixteen sets xs j l m f = by (ltb j 16) refl
   where
-    by : (t : Bool) → ltb j 16 ≡ t → serialAt run j ≡ memberAt xs j
+    by : (t : Bool) → ltb j 16 ≡ t → serialAt sets j ≡ memberAt xs j
     by true e = f (ltb-true j 16 e)
     by false e =
         let b : 16 ≤ j = ltb-false j 16 e in
-        ap aSerial (List·getD-eq-default run 0 (omega (arith, l, b))) ∙ sym (List·getD-eq-default xs blankSerial (omega (arith, m, b)))
+        ap aSerial (List·getD-eq-default sets 0 (omega (arith, l, b))) ∙ sym (List·getD-eq-default xs blankSerial (omega (arith, m, b)))
 
 abbrev Inv-loop : tie.InvT-loop
-Inv-loop run₀ n xs most i₀ run i =
-    (i ≤ most) × (length run ≡ 16) × ((j : ℕ) → j < i → serialAt run j ≡ memberAt xs j) × ((j : ℕ) → i ≤ j → getD run j 0 ≡ getD run₀ j 0)
+Inv-loop sets₀ n xs most i₀ sets i =
+    (i ≤ most) × (length sets ≡ 16) × ((j : ℕ) → j < i → serialAt sets j ≡ memberAt xs j) × ((j : ℕ) → i ≤ j → getD sets j 0 ≡ getD sets₀ j 0)
 
 abbrev μ-loop : tie.MeasureT-loop
-μ-loop run₀ n xs most i₀ run i = most - i
+μ-loop sets₀ n xs most i₀ sets i = most - i
 
-count-run-requires : tie.Need-count-run-requires Inv-loop μ-loop
-count-run-requires c κs = search needs
+count-sets-requires : tie.Need-count-sets-requires Inv-loop μ-loop
+count-sets-requires c κs = search needs
 
 fewer-requires : tie.Need-fewer-requires Inv-loop μ-loop
 fewer-requires c κs = search needs
 
 loop-holds : tie.Need-loop-holds Inv-loop μ-loop
-loop-holds c = (omega arith, c .before .count-run .ensures .1, λ j l. absurd (omega arith), λ j l. refl)
+loop-holds c = (omega arith, c .before .count-sets .ensures .1, λ j l. absurd (omega arith), λ j l. refl)
 
 mul-x : tie.Need-mul-x Inv-loop μ-loop
 mul-x c = search needs
@@ -49,11 +49,11 @@ mul-x c = search needs
 array-copy-out-x : tie.Need-array-copy-out-x Inv-loop μ-loop
 array-copy-out-x c = search needs
 
-mul-run : tie.Need-mul-run Inv-loop μ-loop
-mul-run c = search needs
+mul-sets : tie.Need-mul-sets Inv-loop μ-loop
+mul-sets c = search needs
 
-element-write-run : tie.Need-element-write-run Inv-loop μ-loop
-element-write-run c = search needs
+element-write-sets : tie.Need-element-write-sets Inv-loop μ-loop
+element-write-sets c = search needs
 
 add-i : tie.Need-add-i Inv-loop μ-loop
 add-i c = search needs
@@ -65,16 +65,16 @@ loop-again : tie.Need-loop-again Inv-loop μ-loop
 loop-again c =
     let k = c .before .before in
     let a = k .before .before .before .before .args in
-    let run = k .loop .run in
+    let sets = k .loop .sets in
     let i = k .loop .i in
     let x = getD (a .t2) i blankSerial in
-    let lt : i < length run = omega arith in
-    let mine : (j : ℕ) → j < i + 1 → serialAt (set run i (x .0)) j ≡ memberAt (a .t2) j =
-    below-more (λ (j : ℕ). serialAt (set run i (x .0)) j ≡ memberAt (a .t2) j) i
-    (λ j l. ap aSerial (getD-set-other run i j (x .0) 0 (λ e. omega arith)) ∙ k .loop .inv .2 j l)
-    (ap aSerial (getD-set-same run i (x .0) 0 lt))
+    let lt : i < length sets = omega arith in
+    let mine : (j : ℕ) → j < i + 1 → serialAt (set sets i (x .0)) j ≡ memberAt (a .t2) j =
+    below-more (λ (j : ℕ). serialAt (set sets i (x .0)) j ≡ memberAt (a .t2) j) i
+    (λ j l. ap aSerial (getD-set-other sets i j (x .0) 0 (λ e. omega arith)) ∙ k .loop .inv .2 j l)
+    (ap aSerial (getD-set-same sets i (x .0) 0 lt))
     in
-    (omega arith, simp length-set (omega arith), mine, λ j l. getD-set-other run i j (x .0) 0 (λ e. omega arith) ∙ k .loop .inv .3 j (omega arith))
+    (omega arith, simp length-set (omega arith), mine, λ j l. getD-set-other sets i j (x .0) 0 (λ e. omega arith) ∙ k .loop .inv .3 j (omega arith))
 
 returns : tie.Need-returns Inv-loop μ-loop
 returns c =
@@ -84,10 +84,10 @@ returns c =
     let h = k .loop .inv in
     let e : k .loop .i ≡ min (a .n) 16 = omega (arith, k .before .fewer .ensures) in
     let long : length (a .t2) ≡ 16 = s .good .1 .0 .1 .0 .1 in
-    let same : (j : ℕ) → j < a .n → serialAt (k .loop .run) j ≡ memberAt (a .t2) j =
-    λ j l. sixteen (k .loop .run) (a .t2) j (h .1) long (λ b. h .2 j (omega arith))
+    let same : (j : ℕ) → j < a .n → serialAt (k .loop .sets) j ≡ memberAt (a .t2) j =
+    λ j l. sixteen (k .loop .sets) (a .t2) j (h .1) long (λ b. h .2 j (omega arith))
     in
-    (table-same (serialAt (k .loop .run)) (memberAt (a .t2)) (a .n) same, (λ j l. h .3 j (omega arith), h .1))
+    (table-same (serialAt (k .loop .sets)) (memberAt (a .t2)) (a .n) same, (λ j l. h .3 j (omega arith), h .1))
 
 pub put-members-spec : {M : Type 1} → statement M
 put-members-spec =
@@ -95,13 +95,13 @@ put-members-spec =
     (tie.spec
     Inv-loop
     μ-loop
-    count-run-requires
+    count-sets-requires
     fewer-requires
     loop-holds
     mul-x
     array-copy-out-x
-    mul-run
-    element-write-run
+    mul-sets
+    element-write-sets
     add-i
     loop-less
     loop-again

@@ -9,7 +9,9 @@ taken-capacity-requires c κs = search needs
 
 returns : tie.Need-returns
 unfolding configureRanges
-returns c = rw (c .before .before .before .before .before .before .taken-capacity .ensures)
+returns c =
+    let at-taken-capacity = c .before .before .before .before .before .before in
+    rw (at-taken-capacity .taken-capacity .ensures)
 
 pub configure-ranges-spec : {M : Type 1} → statement M
 configure-ranges-spec = tie.close (tie.spec taken-capacity-requires returns)

@@ -1,4 +1,4 @@
--- `derivation::rows::bad_entry`: an entry is too large among those left, until one is found.
+-- `derivation::ref_lists::bad_entry`: an entry is too large among those left, until one is found.
 use mathlib.Core.Path.{_≡_, sym, _∙_}
 use Prim.Native.Nat.{ℕ, _-_, _<_, _≤_}
 use native.Mathlib.Omega.{arith}

@@ -1,4 +1,4 @@
--- `derivation::rows::candidate_count`: the candidates are the members in the run and the current picture, in either order.
+-- `derivation::ref_lists::candidate_count`: the candidates are the members in the run and the current picture, in either order.
 use denote.Ref.{now}
 use native.Mathlib.Omega.{arith}
 use Rattle.derivation.specs.Lists.{refsIn}
@@ -7,8 +7,8 @@ use borrow.Author.Needs.{needs}
 use Rattle.derivation.proofs.ref_lists.candidate_count.Statement.{statement}
 use Rattle.derivation.proofs.ref_lists.candidate_count.Tie as tie
 
-count-run-requires : tie.Need-count-run-requires
-count-run-requires c κs = search needs
+count-sets-requires : tie.Need-count-sets-requires
+count-sets-requires c κs = search needs
 
 member-count-requires : tie.Need-member-count-requires
 member-count-requires c κs = search needs
@@ -23,8 +23,8 @@ returns : tie.Need-returns
 returns c =
     let k = c .before .before in
     let g = k .before .before .args in
-    let x = refsIn (now (g .run)) (g .refs) in
-    let e = members-length (now (g .run)) (g .refs) (k .count-run .ensures .1) in
+    let x = refsIn (now (g .sets)) (g .refs) in
+    let e = members-length (now (g .sets)) (g .refs) (k .count-sets .ensures .1) in
     record {
       first = λ s. omega (arith, length-0 x (g .own) s);
       other = λ s. omega (arith, length-1 x (g .own) s);
@@ -34,4 +34,4 @@ returns c =
 pub candidate-count-spec : {M : Type 1} → statement M
 candidate-count-spec =
     tie.close
-    (tie.spec count-run-requires member-count-requires own-count-requires add-result returns)
+    (tie.spec count-sets-requires member-count-requires own-count-requires add-result returns)

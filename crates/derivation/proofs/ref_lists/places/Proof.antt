@@ -1,4 +1,4 @@
--- `derivation::rows::places`: each turn writes the candidate of its place, so the places are the table of them.
+-- `derivation::ref_lists::places`: each turn writes the candidate of its place, so the places are the table of them.
 use mathlib.Core.Path.{_≡_, refl, _∙_}
 use mathlib.Core.Bool.{Bool}
 use mathlib.Core.List.{List}
@@ -17,14 +17,14 @@ use Rattle.derivation.proofs.ref_lists.places.Statement.{statement}
 use Rattle.derivation.proofs.ref_lists.places.Tie as tie
 
 abbrev at : List ℕ → Refs → Serial → Bool → Bool → Bool → List ℕ → ℕ → ℕ → Serial
-at run refs c own second modify es n j = placeOf (candidatesOf (refsIn run refs) own second c) c modify es n j
+at sets refs c own second modify es n j = placeOf (candidatesOf (refsIn sets refs) own second c) c modify es n j
 
 abbrev Inv-loop : tie.InvT-loop
-Inv-loop run refs c n second active modify entries items₀ j₀ items j =
-    (j ≤ active) × ((own : Bool) → Padded 16 blankSerial items j (table (at run refs c own second modify entries n) j))
+Inv-loop sets refs c n second active modify entries items₀ j₀ items j =
+    (j ≤ active) × ((own : Bool) → Padded 16 blankSerial items j (table (at sets refs c own second modify entries n) j))
 
 abbrev μ-loop : tie.MeasureT-loop
-μ-loop run refs c n second active modify entries items₀ j₀ items j = active - j
+μ-loop sets refs c n second active modify entries items₀ j₀ items j = active - j
 
 -- what the places are filled from
 has : (c : tie.Start Inv-loop μ-loop) → Fills (c .args .n) (c .args .active) (c .args .modify) (length (now (c .args .entries)))
@@ -33,7 +33,7 @@ has c = fills (c .args .n) (c .args .active) (c .args .modify) (length (now (c .
 loop-holds : tie.Need-loop-holds Inv-loop μ-loop
 loop-holds c =
     let g = c .before .args in
-    (omega arith, λ own. holds-none (at (now (g .run)) (g .refs) (g .c) own (g .second) (g .modify) (now (g .entries)) (g .n)))
+    (omega arith, λ own. holds-none (at (now (g .sets)) (g .refs) (g .c) own (g .second) (g .modify) (now (g .entries)) (g .n)))
 
 which-requires : tie.Need-which-requires Inv-loop μ-loop
 which-requires c κs = let f = has (c .before .before .before) in (omega (arith, f .some), λ t. omega (arith, f .enough t))
@@ -61,7 +61,7 @@ loop-again c =
     let g = s .args in
     let j = l .loop .j in
     let small : j < 16 = omega (arith, has s .most) in
-    (omega arith, λ own. holds-more (at (now (g .run)) (g .refs) (g .c) own (g .second) (g .modify) (now (g .entries)) (g .n)) j (c .candidate .result) (l .loop .inv .1 own) small (c .candidate .ensures own ∙ rw (w .which .ensures)))
+    (omega arith, λ own. holds-more (at (now (g .sets)) (g .refs) (g .c) own (g .second) (g .modify) (now (g .entries)) (g .n)) j (c .candidate .result) (l .loop .inv .1 own) small (c .candidate .ensures own ∙ rw (w .which .ensures)))
 
 returns : tie.Need-returns Inv-loop μ-loop
 returns c = let l = c .before in let e : l .loop .j ≡ l .before .before .args .active = omega arith in (λ own. rw e at (l .loop .inv .1 own), refl)

@@ -1,4 +1,4 @@
--- `derivation::rows::stands`: list 1 is list 0 with its first two parts changed over.
+-- `derivation::ref_lists::stands`: list 1 is list 0 with its first two parts changed over.
 use mathlib.Core.Path.{_≡_}
 use Prim.Native.Nat.{_-_, min}
 use native.Mathlib.Omega.{arith}

@@ -1,4 +1,4 @@
--- `derivation::rows::swapped`: each test is its case of `swappedAt`.
+-- `derivation::ref_lists::swapped`: each test is its case of `swappedAt`.
 use native.Mathlib.Omega.{arith}
 use borrow.Author.Tests.{lt-ltb, le-ltb}
 use Prim.Native.Nat.{_+_}

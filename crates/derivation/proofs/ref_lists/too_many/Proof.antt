@@ -1,4 +1,4 @@
--- `derivation::rows::too_many`: the test is on the larger of the two.
+-- `derivation::ref_lists::too_many`: the test is on the larger of the two.
 use borrow.Author.Needs.{needs}
 use Rattle.derivation.proofs.ref_lists.too_many.Statement.{statement}
 use Rattle.derivation.proofs.ref_lists.too_many.Tie as tie

@@ -1,4 +1,4 @@
--- `derivation::rows::which`: either case is its case of `cond`.
+-- `derivation::ref_lists::which`: either case is its case of `cond`.
 use native.Mathlib.Omega.{arith}
 use borrow.Author.Needs.{needs}
 use Rattle.derivation.proofs.ref_lists.which.Statement.{statement}

@@ -59,12 +59,15 @@ body-ok-requires c κs = search needs
 
 returns-4 : tie.Need-returns-4
 returns-4 c =
-    let r = now (c .before .before .before .before .before .before .before .before .args .msg) in
-    c .before .before .u16-at2 .ensures ∙ sym (ap (λ (t : Bool). cond t (kindOf r) 0) (c .if4 .taken)) ∙ body r (omega arith) (omega arith) (omega arith) (c .before .body-ok .ensures)
+    let at-u16-at2 = c .before .before in
+    let s = at-u16-at2 .before .before .before .before .before .before in
+    let r = now (s .args .msg) in
+    at-u16-at2 .u16-at2 .ensures ∙ sym (ap (λ (t : Bool). cond t (kindOf r) 0) (c .if4 .taken)) ∙ body r (omega arith) (omega arith) (omega arith) (c .before .body-ok .ensures)
 
 returns-5 : tie.Need-returns-5
 returns-5 c =
-    let r = now (c .before .before .before .before .before .before .before .before .args .msg) in
+    let s = c .before .before .before .before .before .before .before .before in
+    let r = now (s .args .msg) in
     sym (ap (λ (t : Bool). cond t (kindOf r) 0) (c .if4 .left)) ∙ body r (omega arith) (omega arith) (omega arith) (c .before .body-ok .ensures)
 
 pub kind-of-spec : {M : Type 1} → statement M

@@ -42,7 +42,8 @@ add-result-2 c = search needs
 
 returns-2 : tie.Need-returns-2
 returns-2 c =
-    let a = now (c .before .before .before .before .before .before .before .args .reply) in
+    let s = c .before .before .before .before .before .before .before in
+    let a = now (s .args .reply) in
     let z : u16 a numberPlace ≡ 0 = omega arith in
     let k : kindOf a ≡ replyTo listsKind = omega arith in
     rw (c .before .byte .ensures, c .byte2 .ensures) (sym (end-lists a z k))
@@ -55,7 +56,8 @@ tail-end-requires c κs = search needs
 
 returns-3 : tie.Need-returns-3
 returns-3 c =
-    let a = now (c .before .before .before .before .before .before .before .args .reply) in
+    let s = c .before .before .before .before .before .before .before in
+    let a = now (s .args .reply) in
     let z : u16 a numberPlace ≡ 0 = omega arith in
     let k : kindOf a ≡ replyTo listsKind → ⊥ = omega arith in
     rw (c .tail-end .ensures, c .before .tail-place .ensures .0) (sym (end-tail a z k))

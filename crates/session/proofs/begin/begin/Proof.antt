@@ -11,7 +11,7 @@ use Rattle.paper.specs.Records.{fieldsOf}
 use Rattle.paper.specs.State.{Session, isCurrent, modulus}
 use Rattle.paper.specs.Ranges.{beginRanges}
 use Rattle.paper.specs.Step.{heldBy}
-use Rattle.format.specs.declared.records.Head.{Head}
+use Rattle.format.specs.declared.records.BeginFields.{BeginFields}
 use Rattle.session.proofs.Ways.{begin-1, begin-3, begin-5, begin-8, begin-7}
 use Rattle.session.proofs.Fronts.{is-now}
 use Rattle.session.proofs.Saying.{does-refuse}
@@ -22,7 +22,7 @@ use Rattle.session.proofs.begin.begin.Statement.{statement}
 use Rattle.session.proofs.begin.begin.Tie as tie
 
 abbrev session : tie.Start → Session
-session c = sessionIn (memory (now (c .args .head)) (now (c .args .run)) (now (c .args .places)))
+session c = sessionIn (memory (now (c .args .front)) (now (c .args .sets)) (now (c .args .store)))
 
 -- the place before each test, from the place behind it
 abbrev start : tie.Else1 → tie.Start
@@ -56,7 +56,7 @@ set-up c = ap not (sym (c .before .is-configured .ensures)) ∙ c .if1 .left
 
 idle : (c : tie.Else2) → isCurrent (session (start-3 c) .current) ≡ false
 unfolding frontIn
-idle c = is-now (now (start-3 c .args .head)) ∙ sym (c .before .is-busy .ensures) ∙ c .if2 .left
+idle c = is-now (now (start-3 c .args .front)) ∙ sym (c .before .is-busy .ensures) ∙ c .if2 .left
 
 ranges : (c : tie.After-begin-ranges) → c .begin-ranges .result ≡ beginRanges (modulus (session (start-3 (before-5 c)) .limits)) (fieldsOf (now (start-3 (before-5 c) .args .msg)))
 unfolding frontIn
@@ -76,7 +76,7 @@ held : (c : tie.After-holds-surface) → c .holds-surface .result ≡ anyB (held
 unfolding fieldsOf
 held c =
     let b = before-8 (before-7 c .before .before) .before in
-    c .holds-surface .ensures ∙ ap (λ (h : Head). anyB (heldBy (h .surface)) (session (start-8 (before-7 c)) .store)) (b .before .head-of .ensures)
+    c .holds-surface .ensures ∙ ap (λ (h : BeginFields). anyB (heldBy (h .surface)) (session (start-8 (before-7 c)) .store)) (b .before .begin-fields .ensures)
 
 is-configured-requires : tie.Need-is-configured-requires
 is-configured-requires c κs = search needs
@@ -109,13 +109,13 @@ returns-2 c =
     let t = c .before .before .before .before in
     let e = t .before .before .before in
     let s = start e in
-    does-refuse (begin-3 (session s) (fieldsOf (now (s .args .msg))) (set-up e) (is-now (now (s .args .head)) ∙ sym (t .before .is-busy .ensures) ∙ t .if2 .taken)) (c .before .before .refuse2 .ensures)
+    does-refuse (begin-3 (session s) (fieldsOf (now (s .args .msg))) (set-up e) (is-now (now (s .args .front)) ∙ sym (t .before .is-busy .ensures) ∙ t .if2 .taken)) (c .before .before .refuse2 .ensures)
 
 limits-in-requires : tie.Need-limits-in-requires
 limits-in-requires c κs = search needs
 
-head-of-requires : tie.Need-head-of-requires
-head-of-requires c κs = search needs
+begin-fields-requires : tie.Need-begin-fields-requires
+begin-fields-requires c κs = search needs
 
 begin-ranges-requires : tie.Need-begin-ranges-requires
 begin-ranges-requires c κs = search needs
@@ -177,7 +177,7 @@ begin-inside-requires c κs =
     let e = before-5 (r .before) in (
       record {
         limits = r .before .before .before .limits-in .ensures;
-        head = r .before .before .head-of .ensures;
+        fields = r .before .before .begin-fields .ensures;
         configured = not-false _ (set-up (before-3 e));
         idle = idle e;
         ranges = not-false _ (within r);
@@ -206,7 +206,7 @@ begin-spec =
     same-length-2
     returns-2
     limits-in-requires
-    head-of-requires
+    begin-fields-requires
     begin-ranges-requires
     refuse-requires-3
     same-length-3

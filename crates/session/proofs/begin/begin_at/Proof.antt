@@ -12,10 +12,10 @@ abbrev start : tie.After-struct-told → tie.Start
 start c = c .before .before .before .before .before
 
 abbrev session : tie.Start → Session
-session s = sessionIn (memory (now (s .args .head)) (now (s .args .run)) (now (s .args .places)))
+session s = sessionIn (memory (now (s .args .front)) (now (s .args .sets)) (now (s .args .store)))
 
 wishes-requires : tie.Need-wishes-requires
-wishes-requires c κs = let p = start c .pre .0 in (p .passed .head, few-of p)
+wishes-requires c κs = let p = start c .pre .0 in (p .passed .fields, few-of p)
 
 refuse-requires : tie.Need-refuse-requires
 refuse-requires c κs = search needs

@@ -12,7 +12,7 @@ use Rattle.session.proofs.begin.begin_inside.Statement.{statement}
 use Rattle.session.proofs.begin.begin_inside.Tie as tie
 
 abbrev session : tie.Start → Session
-session c = sessionIn (memory (now (c .args .head)) (now (c .args .run)) (now (c .args .places)))
+session c = sessionIn (memory (now (c .args .front)) (now (c .args .sets)) (now (c .args .store)))
 
 -- what the callees of steps 1 and 2 answered
 abbrev start : tie.After-derive-poc → tie.Start
@@ -21,10 +21,12 @@ start c = c .before .before .before .before .before .before .before .before .bef
 counted : (c : tie.After-derive-poc) → Counted (session (start c)) (start c .args .h) (c .before .before .flags-of .result) (c .derive-poc .result)
 unfolding frontIn
 counted c =
+    let at-is-first = c .before .before .before .before .before in
+    let at-prev-in = at-is-first .before .before in
     let f = c .before .before .flags-of in
-    let q = c .before .before .before .before .before .before .before .prev-in in
+    let q = at-prev-in .prev-in in
     record {
-      flags = f .ensures ∙ (λ i. flagsFrom (c .before .before .before .before .before .is-first .ensures i) (c .before .before .before .is-ended .ensures i) (start c .args .h));
+      flags = f .ensures ∙ (λ i. flagsFrom (at-is-first .is-first .ensures i) (c .before .before .before .is-ended .ensures i) (start c .args .h));
       poc = c .derive-poc .ensures .0 ∙ (λ i. pocAnswer (modulus (start c .pre .0 .limits i)) ((c .before .prev-for .ensures ∙ ap (prevFrom (f .result .over)) (q .ensures)) i) (start c .args .h .lsb));
     }
 
@@ -57,18 +59,20 @@ enum-known-msb c = search needs
 
 begin-at-requires : tie.Need-begin-at-requires
 begin-at-requires c κs =
-    let d = c .before .before .before .before .before .before .before in
+    let at-msb = c .before .before .before .before .before in
+    let d = at-msb .before .before in
     let s = start d in
-    (placed (s .pre .0) (counted d) _ _ (c .before .before .before .before .before .msb .given .1), s .pre .1)
+    (placed (s .pre .0) (counted d) _ _ (at-msb .msb .given .1), s .pre .1)
 
 same-length : tie.Need-same-length
 same-length c = search needs
 
 returns : tie.Need-returns
 returns c =
-    let d = c .before .before .before .before .before .before in
+    let at-enum-told = c .before .before .before .before in
+    let d = at-enum-told .before .before in
     let s = start d in
-    does-refuse (outside (session s) (now (s .args .msg)) (s .pre .0) (no-poc (s .pre .0) (counted d) (c .before .before .before .before .enum-told .given .1))) (c .before .before .refuse .ensures)
+    does-refuse (outside (session s) (now (s .args .msg)) (s .pre .0) (no-poc (s .pre .0) (counted d) (at-enum-told .enum-told .given .1))) (c .before .before .refuse .ensures)
 
 same-length-2 : tie.Need-same-length-2
 same-length-2 c = search needs

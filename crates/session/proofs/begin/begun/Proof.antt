@@ -78,7 +78,8 @@ same-length c = search needs
 returns : tie.Need-returns
 unfolding frontIn
 returns c =
-    let w = c .before .before .before .before .before .before .before in
+    let at-current-of = c .before .before .before in
+    let w = at-current-of .before .before .before .before in
     let n = w .before .before .before in
     let p = n .before .before .put-members .ensures in
     let u = n .before .before .before .before .before .before in
@@ -88,12 +89,12 @@ returns c =
     let y = d .derive-and-mark-rps .result in
     let e = n .next-serial .ensures in
     let t =
-    tells (now (a .head)) (y .first) (y .second) (storedIn (y .store)) (now (a .places)) (a .t) (y .sizes) (s .pre .0 .placed .passed .limits) (u .before .before .is-ended .ensures)
+    tells (now (a .front)) (y .first) (y .second) (storedIn (y .store)) (now (a .store)) (a .t) (y .sizes) (s .pre .0 .placed .passed .limits) (u .before .before .is-ended .ensures)
     (w .before .told-of .ensures ∙ ap (λ (k : Serial). toldFrom (k .0) (a .t)) e) (u .update-dpb-before-decoding .ensures) (w .put-begun .ensures)
     in
-    begun-does (memory (now (a .head)) (now (a .run)) (now (a .places))) (now (a .msg)) (a .h) (a .t) (now (a .pocs)) (now (a .hows)) (s .pre .0) y (d .derive-and-mark-rps .ensures) t
+    begun-does (memory (now (a .front)) (now (a .sets)) (now (a .store))) (now (a .msg)) (a .h) (a .t) (now (a .pocs)) (now (a .hows)) (s .pre .0) y (d .derive-and-mark-rps .ensures) t
     (n .before .before .put-members .last .0) (p .1 .1) (p .0) (p .1 .0) (c .put-begun2 .ensures .0) (c .put-begun2 .ensures .1)
-    (c .before .before .before .current-of .ensures ∙ ap (λ (k : Serial). currentFrom (k .0) (a .h) (a .t)) e) (c .before .before .refs-of .ensures)
+    (at-current-of .current-of .ensures ∙ ap (λ (k : Serial). currentFrom (k .0) (a .h) (a .t)) e) (c .before .before .refs-of .ensures)
     (c .before .next-after .ensures ∙ ap (λ (k : Serial). cond (eqb (k .0) 4294967295) 0 (k .0 + 1)) e)
 
 pub begun-spec : {M : Type 1} → statement M

@@ -25,7 +25,10 @@ is-irap-requires : tie.Need-is-irap-requires
 is-irap-requires c κs = search needs
 
 returns : tie.Need-returns
-returns c = rw (c .is-irap .ensures, c .before .no-prior-output .ensures, c .before .before .bit1 .ensures, c .before .before .before .valid-prev .ensures, c .before .before .before .before .pic-output .ensures, c .before .before .before .before .before .bit0 .ensures, c .before .before .before .before .before .before .no-rasl-output .ensures)
+returns c =
+    let at-bit0 = c .before .before .before .before .before in
+    let at-no-rasl-output = at-bit0 .before in
+    rw (c .is-irap .ensures, c .before .no-prior-output .ensures, c .before .before .bit1 .ensures, c .before .before .before .valid-prev .ensures, c .before .before .before .before .pic-output .ensures, at-bit0 .bit0 .ensures, at-no-rasl-output .no-rasl-output .ensures)
 
 pub flags-of-spec : {M : Type 1} → statement M
 flags-of-spec =

@@ -25,7 +25,11 @@ same-length : tie.Need-same-length
 same-length c = search needs
 
 returns : tie.Need-returns
-returns c = λ xs t. abandon-4 (now (c .before .before .before .before .before .before .before .before .before .args .head)) xs t (sym (c .before .before .before .before .before .before .now-in .ensures) ∙ c .before .before .before .before .enum-told .given .1) (c .before .before .refuse .ensures)
+returns c =
+    let at-enum-told = c .before .before .before .before in
+    let at-now-in = at-enum-told .before .before in
+    let s = at-now-in .before .before .before in
+    λ xs t. abandon-4 (now (s .args .front)) xs t (sym (at-now-in .now-in .ensures) ∙ at-enum-told .enum-told .given .1) (c .before .before .refuse .ensures)
 
 same-length-2 : tie.Need-same-length-2
 same-length-2 c = search needs

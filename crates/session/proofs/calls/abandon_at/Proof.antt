@@ -25,7 +25,7 @@ returns : tie.Need-returns
 returns c =
     let i = c .before .before .before .before in
     let s = i .before .before .before .before .before .before in
-    λ xs t. abandon-does (now (s .args .head)) xs t (s .args .c) (s .pre .0) (i .before .before .prev-in .ensures) (i .before .before .before .before .abandon .ensures) (idles (i .put-idle .ensures)) (c .before .before .put-done .ensures)
+    λ xs t. abandon-does (now (s .args .front)) xs t (s .args .c) (s .pre .0) (i .before .before .prev-in .ensures) (i .before .before .before .before .abandon .ensures) (idles (i .put-idle .ensures)) (c .before .before .put-done .ensures)
 
 pub abandon-at-spec : {M : Type 1} → statement M
 abandon-at-spec =

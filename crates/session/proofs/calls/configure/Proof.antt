@@ -32,7 +32,7 @@ returns : tie.Need-returns
 returns c =
     let k = c .before .before .before .before in
     let a = k .before .before .before .before .before .args in
-    λ xs. configure-2 (now (a .head)) xs (now (a .places)) (limitsOf (now (a .msg))) (ranges-no (k .before .before .limits-of .ensures) (k .before .configure-ranges .ensures) (k .if1 .taken)) (c .before .before .refuse .ensures)
+    λ xs. configure-2 (now (a .front)) xs (now (a .store)) (limitsOf (now (a .msg))) (ranges-no (k .before .before .limits-of .ensures) (k .before .configure-ranges .ensures) (k .if1 .taken)) (c .before .before .refuse .ensures)
 
 is-stuck-requires : tie.Need-is-stuck-requires
 is-stuck-requires c κs = search needs
@@ -48,13 +48,13 @@ returns-2 c =
     let k = c .before .before .before .before in
     let l = k .before .before .before .before in
     let a = l .before .before .before .before .before .args in
-    λ xs. configure-9 (now (a .head)) xs (now (a .places)) (limitsOf (now (a .msg))) (fine l) (sym (k .before .is-stuck .ensures xs) ∙ k .if2 .taken) (c .before .before .refuse2 .ensures)
+    λ xs. configure-9 (now (a .front)) xs (now (a .store)) (limitsOf (now (a .msg))) (fine l) (sym (k .before .is-stuck .ensures xs) ∙ k .if2 .taken) (c .before .before .refuse2 .ensures)
 
 drain-as-requires : tie.Need-drain-as-requires
 drain-as-requires c κs =
     let k = c .before .before .before in
     let a = k .before .before .before .before .before .before .before .before .before .args in
-    (room-now (now (a .head)) [] (now (a .places)) (sym (k .before .is-stuck .ensures []) ∙ k .if2 .left), search needs)
+    (room-now (now (a .front)) [] (now (a .store)) (sym (k .before .is-stuck .ensures []) ∙ k .if2 .left), search needs)
 
 put-idle-requires : tie.Need-put-idle-requires
 put-idle-requires c κs = search needs
@@ -76,7 +76,7 @@ returns-3 c =
     let l = k .before .before .before .before in
     let a = l .before .before .before .before .before .args in
     λ xs.
-    configure-does (now (a .head)) xs (now (a .places)) (limitsOf (now (a .msg))) (i .put-idle .last .0) (fine l) (sym (k .before .is-stuck .ensures xs) ∙ k .if2 .left) (d .drain-as .ensures) (idles (i .put-idle .ensures))
+    configure-does (now (a .front)) xs (now (a .store)) (limitsOf (now (a .msg))) (i .put-idle .last .0) (fine l) (sym (k .before .is-stuck .ensures xs) ∙ k .if2 .left) (d .drain-as .ensures) (idles (i .put-idle .ensures))
     (c .put-limits .ensures .0) (c .put-limits .ensures .1) (c .before .taken-limits .ensures ∙ ap taken16 (l .before .before .limits-of .ensures))
 
 pub configure-spec : {M : Type 1} → statement M

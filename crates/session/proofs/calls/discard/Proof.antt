@@ -30,7 +30,7 @@ returns c =
     let d = i .before .before in
     let n = d .before .before .before .before in
     let a = n .before .before .before .args in
-    λ xs. discard-does (now (a .head)) xs (now (a .places)) (n .now-in .ensures) (d .before .before .prev-in .ensures) (d .discard .ensures) (idles (i .put-idle .ensures)) (c .before .before .put-done .ensures)
+    λ xs. discard-does (now (a .front)) xs (now (a .store)) (n .now-in .ensures) (d .before .before .prev-in .ensures) (d .discard .ensures) (idles (i .put-idle .ensures)) (c .before .before .put-done .ensures)
 
 pub discard-spec : {M : Type 1} → statement M
 discard-spec =

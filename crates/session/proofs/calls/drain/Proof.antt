@@ -20,22 +20,23 @@ returns : tie.Need-returns
 returns c =
     let k = c .before .before .before .before in
     let a = k .before .before .before .before .before .args in
-    λ xs. drain-9 (now (a .head)) xs (now (a .places)) (sym (k .before .is-stuck .ensures xs) ∙ k .if1 .taken) (c .before .before .refuse .ensures)
+    λ xs. drain-9 (now (a .front)) xs (now (a .store)) (sym (k .before .is-stuck .ensures xs) ∙ k .if1 .taken) (c .before .before .refuse .ensures)
 
 drain-as-requires : tie.Need-drain-as-requires
 drain-as-requires c κs =
     let k = c .before .before .before in
     let a = k .before .before .before .before .before .args in
-    (room-now (now (a .head)) [] (now (a .places)) (sym (k .before .is-stuck .ensures []) ∙ k .if1 .left), search needs)
+    (room-now (now (a .front)) [] (now (a .store)) (sym (k .before .is-stuck .ensures []) ∙ k .if1 .left), search needs)
 
 same-length-2 : tie.Need-same-length-2
 same-length-2 c = search needs
 
 returns-2 : tie.Need-returns-2
 returns-2 c =
-    let k = c .before .before .before .before .before .before in
+    let at-drain-as = c .before .before in
+    let k = at-drain-as .before .before .before .before in
     let a = k .before .before .before .before .before .args in
-    λ xs. drain-does (now (a .head)) xs (now (a .places)) (sym (k .before .is-stuck .ensures xs) ∙ k .if1 .left) (c .before .before .drain-as .ensures)
+    λ xs. drain-does (now (a .front)) xs (now (a .store)) (sym (k .before .is-stuck .ensures xs) ∙ k .if1 .left) (at-drain-as .drain-as .ensures)
 
 pub drain-spec : {M : Type 1} → statement M
 drain-spec =

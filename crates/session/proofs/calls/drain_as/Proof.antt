@@ -21,9 +21,10 @@ enum-known-c c = search needs
 
 drain-current-requires : tie.Need-drain-current-requires
 drain-current-requires c κs =
-    let n = c .before .before .before .before .before .before in
+    let at-c = c .before .before .before .before in
+    let n = at-c .before .before in
     let s = n .before .before .before in
-    let e = sym (n .now-in .ensures) ∙ c .before .before .before .before .c .given .1 in
+    let e = sym (n .now-in .ensures) ∙ at-c .c .given .1 in
     (e, s .pre .0 (ap isCurrent e), s .pre .1)
 
 same-length : tie.Need-same-length

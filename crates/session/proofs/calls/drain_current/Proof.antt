@@ -22,7 +22,9 @@ put-idle-requires : tie.Need-put-idle-requires
 put-idle-requires c κs = search needs
 
 put-done-requires : tie.Need-put-done-requires
-put-done-requires c κs = (tail-good (c .before .before .before .before .before .before .finish-and-drain .ensures .tail), search needs)
+put-done-requires c κs =
+    let at-finish-and-drain = c .before .before .before .before .before .before in
+    (tail-good (at-finish-and-drain .finish-and-drain .ensures .tail), search needs)
 
 same-length : tie.Need-same-length
 same-length c = search needs
@@ -33,7 +35,7 @@ returns c =
     let d = i .before .before .before .before .before in
     let s = d .before .before .before .before .before in
     let a = s .args in
-    drained-now (now (a .head)) (now (a .places)) (a .c) (s .pre .0) (s .pre .1) (d .before .before .limits-in .ensures) (i .before .before .before .prev-in .ensures) (i .before .prev-after .ensures)
+    drained-now (now (a .front)) (now (a .store)) (a .c) (s .pre .0) (s .pre .1) (d .before .before .limits-in .ensures) (i .before .before .before .prev-in .ensures) (i .before .prev-after .ensures)
     (d .finish-and-drain .ensures) (idles (i .put-idle .ensures)) (c .before .before .put-done .ensures)
 
 pub drain-current-spec : {M : Type 1} → statement M

@@ -27,7 +27,7 @@ returns c =
     let d = i .before .before .before .before in
     let s = d .before .before .before in
     let a = s .args in
-    drained-idle (now (a .head)) (now (a .places)) (s .pre .0) (i .before .before .prev-in .ensures) (d .drain .ensures) (idles (i .put-idle .ensures)) (c .before .before .put-done .ensures)
+    drained-idle (now (a .front)) (now (a .store)) (s .pre .0) (i .before .before .prev-in .ensures) (d .drain .ensures) (idles (i .put-idle .ensures)) (c .before .before .put-done .ensures)
 
 pub drain-idle-spec : {M : Type 1} → statement M
 drain-idle-spec =

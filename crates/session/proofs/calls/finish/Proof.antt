@@ -19,15 +19,21 @@ enum-known-c : tie.Need-enum-known-c
 enum-known-c c = search needs
 
 finish-at-requires : tie.Need-finish-at-requires
-finish-at-requires c κs = (sym (c .before .before .before .before .before .before .now-in .ensures) ∙ c .before .before .before .before .c .given .1, search needs)
+finish-at-requires c κs =
+    let at-c = c .before .before .before .before in
+    let at-now-in = at-c .before .before in
+    (sym (at-now-in .now-in .ensures) ∙ at-c .c .given .1, search needs)
 
 same-length : tie.Need-same-length
 same-length c = search needs
 
 returns : tie.Need-returns
 returns c =
-    let a = c .before .before .before .before .before .before .before .before .before .args in
-    λ xs. finish-4 (now (a .head)) xs (now (a .places)) (sym (c .before .before .before .before .before .before .now-in .ensures) ∙ c .before .before .before .before .enum-told .given .1) (c .before .before .refuse .ensures)
+    let at-enum-told = c .before .before .before .before in
+    let at-now-in = at-enum-told .before .before in
+    let s = at-now-in .before .before .before in
+    let a = s .args in
+    λ xs. finish-4 (now (a .front)) xs (now (a .store)) (sym (at-now-in .now-in .ensures) ∙ at-enum-told .enum-told .given .1) (c .before .before .refuse .ensures)
 
 same-length-2 : tie.Need-same-length-2
 same-length-2 c = search needs

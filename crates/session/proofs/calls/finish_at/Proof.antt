@@ -12,8 +12,8 @@ use Rattle.session.proofs.calls.finish_at.Statement.{statement}
 use Rattle.session.proofs.calls.finish_at.Tie as tie
 
 -- the test is the paper's
-tested : (c : tie.After-is-full) (xs : List ℕ) → c .is-full .result ≡ full (sessionIn (memory (now (c .before .before .before .before .before .args .head)) xs (now (c .before .before .before .before .before .args .places))))
-tested c xs = full-is (now (c .before .before .before .before .before .args .head)) xs (now (c .before .before .before .before .before .args .places)) (c .before .before .limits-in .ensures) (c .is-full .ensures)
+tested : (c : tie.After-is-full) (xs : List ℕ) → c .is-full .result ≡ full (sessionIn (memory (now (c .before .before .before .before .before .args .front)) xs (now (c .before .before .before .before .before .args .store))))
+tested c xs = full-is (now (c .before .before .before .before .before .args .front)) xs (now (c .before .before .before .before .before .args .store)) (c .before .before .limits-in .ensures) (c .is-full .ensures)
 
 limits-in-requires : tie.Need-limits-in-requires
 limits-in-requires c κs = search needs
@@ -31,7 +31,7 @@ returns : tie.Need-returns
 returns c =
     let k = c .before .before .before .before in
     let s = k .before .before .before .before .before .before in
-    λ xs. finish-9 (now (s .args .head)) xs (now (s .args .places)) (s .args .c) (s .pre .0) (sym (tested (k .before) xs) ∙ k .if1 .taken) (c .before .before .refuse .ensures)
+    λ xs. finish-9 (now (s .args .front)) xs (now (s .args .store)) (s .args .c) (s .pre .0) (sym (tested (k .before) xs) ∙ k .if1 .taken) (c .before .before .refuse .ensures)
 
 finish-picture-requires : tie.Need-finish-picture-requires
 finish-picture-requires c κs = search needs
@@ -46,7 +46,9 @@ put-idle-requires : tie.Need-put-idle-requires
 put-idle-requires c κs = search needs
 
 put-done-requires : tie.Need-put-done-requires
-put-done-requires c κs = (tail-good (c .before .before .before .before .before .before .finish-picture .ensures .tail), search needs)
+put-done-requires c κs =
+    let at-finish-picture = c .before .before .before .before .before .before in
+    (tail-good (at-finish-picture .finish-picture .ensures .tail), search needs)
 
 same-length-2 : tie.Need-same-length-2
 same-length-2 c = search needs
@@ -58,7 +60,7 @@ returns-2 c =
     let k = f .before .before in
     let s = k .before .before .before .before .before .before in
     λ xs.
-    finish-does (now (s .args .head)) xs (now (s .args .places)) (s .args .c) (s .pre .0) (sym (tested (k .before) xs) ∙ k .if1 .left) (k .before .before .before .limits-in .ensures) (i .before .before .before .prev-in .ensures) (i .before .prev-after .ensures)
+    finish-does (now (s .args .front)) xs (now (s .args .store)) (s .args .c) (s .pre .0) (sym (tested (k .before) xs) ∙ k .if1 .left) (k .before .before .before .limits-in .ensures) (i .before .before .before .prev-in .ensures) (i .before .prev-after .ensures)
     (f .finish-picture .ensures) (idles (i .put-idle .ensures)) (c .before .before .put-done .ensures)
 
 pub finish-at-spec : {M : Type 1} → statement M

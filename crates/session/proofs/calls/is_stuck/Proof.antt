@@ -20,7 +20,7 @@ is-full-requires c κs = search needs
 returns : tie.Need-returns
 returns c =
     let a = c .before .before .before .args in
-    λ xs. ap₂ (λ (x y : Bool). x && y) (c .before .is-busy .ensures ∙ sym (is-now (now (a .head)))) (full-is (now (a .head)) xs (now (a .places)) (c .before .before .limits-in .ensures) (c .is-full .ensures))
+    λ xs. ap₂ (λ (x y : Bool). x && y) (c .before .is-busy .ensures ∙ sym (is-now (now (a .front)))) (full-is (now (a .front)) xs (now (a .store)) (c .before .before .limits-in .ensures) (c .is-full .ensures))
 
 pub is-stuck-spec : {M : Type 1} → statement M
 is-stuck-spec = tie.close (tie.spec limits-in-requires is-busy-requires is-full-requires returns)

@@ -24,7 +24,7 @@ returns : tie.Need-returns
 returns c =
     let s = c .before .before .before .before .before in
     let a = s .args in
-    unused-0 (refsIn (now (a .run)) (a .refs)) (a .c) (sliceOf (now (a .msg))) (c .no-list .result) (s .pre .1 .ask0) (not-true (a .h .ask0 .uses) (c .before .if1 .taken)) (c .no-list .ensures)
+    unused-0 (refsIn (now (a .sets)) (a .refs)) (a .c) (sliceOf (now (a .msg))) (c .no-list .result) (s .pre .1 .ask0) (not-true (a .h .ask0 .uses) (c .before .if1 .taken)) (c .no-list .ensures)
 
 candidate-count-requires : tie.Need-candidate-count-requires
 candidate-count-requires c κs = search needs
@@ -59,7 +59,7 @@ returns-2 c =
     let h = s .pre .1 in
     let uses = not-false (a .h .ask0 .uses) (e .if1 .left) in
     let es = entries-0 r (s .pre .0) (counted (c .before .before)) in
-    held-0 (refsIn (now (a .run)) (a .refs)) (a .c) (sliceOf r) (c .build-ref-pic-list .result) (h .own) uses (h .ask0) es
+    held-0 (refsIn (now (a .sets)) (a .refs)) (a .c) (sliceOf r) (c .build-ref-pic-list .result) (h .own) uses (h .ask0) es
     (c .before .before .before .before .candidate-count .ensures) (c .before .before .before .ends-with-own .ensures) (ready-0 r (s .pre .2) (h .own) (h .ask0) uses es) (c .build-ref-pic-list .ensures)
 
 pub first-list-spec : {M : Type 1} → statement M

@@ -12,7 +12,7 @@ use Rattle.session.proofs.lists.judged.Tie as tie
 abbrev start : tie.After-struct-known → tie.Start
 start c = c .before .before .before .before .before .before .before
 
-seen : (c : tie.After-struct-known) → Judging (refsIn (now (start c .args .run)) (start c .args .refs)) (sliceOf (now (start c .args .msg))) (start c .args .h) (c .before .candidate-count .result)
+seen : (c : tie.After-struct-known) → Judging (refsIn (now (start c .args .sets)) (start c .args .refs)) (sliceOf (now (start c .args .msg))) (start c .args .h) (c .before .candidate-count .result)
 seen c =
     let s = start c in
     let e = c .before .before .before .before in
@@ -31,7 +31,7 @@ returns c =
     let s = c .before .before .before in
     let k = c .before .lists-ranges in
     let f = sliceOf (now (s .args .msg)) in
-    fails-5 (refsIn (now (s .args .run)) (s .args .refs)) f (sym (k .ensures f (s .pre .1)) ∙ not-true (k .result) (c .if1 .taken))
+    fails-5 (refsIn (now (s .args .sets)) (s .args .refs)) f (sym (k .ensures f (s .pre .1)) ∙ not-true (k .result) (c .if1 .taken))
 
 candidate-count-requires : tie.Need-candidate-count-requires
 candidate-count-requires c κs = search needs

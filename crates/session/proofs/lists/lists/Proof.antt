@@ -34,10 +34,13 @@ same-length c = search needs
 returns : tie.Need-returns
 unfolding frontIn
 returns c =
-    let a = c .before .before .before .before .before .before .before .before .before .before .args in
+    let at-enum-told = c .before .before .before .before in
+    let at-now-in = at-enum-told .before .before in
+    let start = at-now-in .before .before .before .before in
+    let a = start .args in
     λ t.
-    let s = sessionIn (memory (now (a .head)) (now (a .run)) t) in
-    answers-now s (sliceOf (now (a .msg))) (now (a .reply)) _ Idle (sym (c .before .before .before .before .before .before .now-in .ensures) ∙ c .before .before .before .before .enum-told .given .1) (answers-idle s (now (a .reply)) _ (c .before .before .refuse .ensures))
+    let s = sessionIn (memory (now (a .front)) (now (a .sets)) t) in
+    answers-now s (sliceOf (now (a .msg))) (now (a .reply)) _ Idle (sym (at-now-in .now-in .ensures) ∙ at-enum-told .enum-told .given .1) (answers-idle s (now (a .reply)) _ (c .before .before .refuse .ensures))
 
 same-length-2 : tie.Need-same-length-2
 same-length-2 c = search needs
@@ -45,11 +48,15 @@ same-length-2 c = search needs
 returns-2 : tie.Need-returns-2
 unfolding frontIn
 returns-2 c =
-    let a = c .before .before .before .before .before .before .before .before .before .before .before .args in
-    let w = c .before .before .before .before .before .c .given in
+    let at-c = c .before .before .before .before .before in
+    let at-now-in = at-c .before .before in
+    let at-refs-in = at-now-in .before in
+    let start = at-refs-in .before .before .before in
+    let a = start .args in
+    let w = at-c .c .given in
     λ t.
-    let s = sessionIn (memory (now (a .head)) (now (a .run)) t) in
-    answers-now s (sliceOf (now (a .msg))) (now (a .reply)) _ (Is (w .0 .0)) (sym (c .before .before .before .before .before .before .before .now-in .ensures) ∙ w .1) (c .before .before .lists-at .ensures s (ap (refsIn (now (a .run))) (sym (c .before .before .before .before .before .before .before .before .refs-in .ensures))))
+    let s = sessionIn (memory (now (a .front)) (now (a .sets)) t) in
+    answers-now s (sliceOf (now (a .msg))) (now (a .reply)) _ (Is (w .0 .0)) (sym (at-now-in .now-in .ensures) ∙ w .1) (c .before .before .lists-at .ensures s (ap (refsIn (now (a .sets))) (sym (at-refs-in .refs-in .ensures))))
 
 pub lists-spec : {M : Type 1} → statement M
 lists-spec =

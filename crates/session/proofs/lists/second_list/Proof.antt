@@ -27,7 +27,7 @@ returns : tie.Need-returns
 returns c =
     let s = c .before .before .before .before .before in
     let a = s .args in
-    unused-1 (refsIn (now (a .run)) (a .refs)) (a .c) (sliceOf (now (a .msg))) (c .no-list .result) (s .pre .1 .ask1) (not-true (a .h .ask1 .uses) (c .before .if1 .taken)) (c .no-list .ensures)
+    unused-1 (refsIn (now (a .sets)) (a .refs)) (a .c) (sliceOf (now (a .msg))) (c .no-list .result) (s .pre .1 .ask1) (not-true (a .h .ask1 .uses) (c .before .if1 .taken)) (c .no-list .ensures)
 
 entry-count-requires : tie.Need-entry-count-requires
 entry-count-requires c κs = search needs
@@ -62,7 +62,7 @@ returns-2 c =
     let h = s .pre .1 in
     let uses = not-false (a .h .ask1 .uses) (e .if1 .left) in
     let es = entries-1 r (s .pre .0) (first-count (c .before .before .before)) (second-count (c .before .before)) in
-    held-1 (refsIn (now (a .run)) (a .refs)) (a .c) (sliceOf r) (c .build-ref-pic-list .result) (h .own) uses (h .ask1) es
+    held-1 (refsIn (now (a .sets)) (a .refs)) (a .c) (sliceOf r) (c .build-ref-pic-list .result) (h .own) uses (h .ask1) es
     (ready-1 r (s .pre .2) (h .own) (h .ask1) uses es) (c .build-ref-pic-list .ensures)
 
 pub second-list-spec : {M : Type 1} → statement M

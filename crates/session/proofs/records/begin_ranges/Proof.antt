@@ -1,4 +1,4 @@
--- `begin_ranges`: the ranges are those of the head and those of the entries, and a head in range has at most 16 entries.
+-- `begin_ranges`: the ranges are those of the fields and those of the entries, and fields in range have at most 16 entries behind them.
 use Prim.Native.Nat.{_+_, _^_, _≤_, min}
 use native.Mathlib.Omega.{arith}
 use borrow.Author.Needs.{needs}
@@ -10,9 +10,9 @@ use Rattle.session.proofs.records.begin_ranges.Tie as tie
 abbrev start : tie.Else1 → tie.Start
 start c = c .before .before .before .before .before .before
 
--- behind the test of the head there are at most 16 entries
+-- behind the test of the fields there are at most 16 entries
 few-behind : (c : tie.Else1) → start c .args .h .neg + start c .args .h .pos + start c .args .h .lt ≤ 16
-few-behind c = let s = start c in begin-few (2 ^ (min (s .args .k) 16)) (now (s .args .msg)) (s .pre) (c .before .head-ranges .ensures) (c .if1 .left)
+few-behind c = let s = start c in begin-few (2 ^ (min (s .args .k) 16)) (now (s .args .msg)) (s .pre) (c .before .field-ranges .ensures) (c .if1 .left)
 
 cast-neg : tie.Need-cast-neg
 cast-neg c = search needs
@@ -23,19 +23,19 @@ cast-pos c = search needs
 cast-lt : tie.Need-cast-lt
 cast-lt c = search needs
 
-add-head-ranges : tie.Need-add-head-ranges
-add-head-ranges c = search needs
+add-field-ranges : tie.Need-add-field-ranges
+add-field-ranges c = search needs
 
-add-head-ranges-2 : tie.Need-add-head-ranges-2
-add-head-ranges-2 c = search needs
+add-field-ranges-2 : tie.Need-add-field-ranges-2
+add-field-ranges-2 c = search needs
 
-head-ranges-requires : tie.Need-head-ranges-requires
-head-ranges-requires c κs = search needs
+field-ranges-requires : tie.Need-field-ranges-requires
+field-ranges-requires c κs = search needs
 
 returns : tie.Need-returns
 returns c =
     let s = c .before .before .before .before .before .before in
-    begin-out (2 ^ (min (s .args .k) 16)) (now (s .args .msg)) (s .pre) (c .before .head-ranges .ensures) (c .if1 .taken)
+    begin-out (2 ^ (min (s .args .k) 16)) (now (s .args .msg)) (s .pre) (c .before .field-ranges .ensures) (c .if1 .taken)
 
 add-longs-all : tie.Need-add-longs-all
 add-longs-all c = search needs
@@ -65,7 +65,7 @@ returns-2 : tie.Need-returns-2
 returns-2 c =
     let e = c .before .before .before in
     let s = start e in
-    begin-on (2 ^ (min (s .args .k) 16)) (now (s .args .msg)) (s .pre) (e .before .head-ranges .ensures) (e .if1 .left) (c .before .before .longs-all .ensures) (c .before .falling-all .ensures) (c .rising-all .ensures)
+    begin-on (2 ^ (min (s .args .k) 16)) (now (s .args .msg)) (s .pre) (e .before .field-ranges .ensures) (e .if1 .left) (c .before .before .longs-all .ensures) (c .before .falling-all .ensures) (c .rising-all .ensures)
 
 pub begin-ranges-spec : {M : Type 1} → statement M
 begin-ranges-spec =
@@ -74,9 +74,9 @@ begin-ranges-spec =
     cast-neg
     cast-pos
     cast-lt
-    add-head-ranges
-    add-head-ranges-2
-    head-ranges-requires
+    add-field-ranges
+    add-field-ranges-2
+    field-ranges-requires
     returns
     add-longs-all
     mul-longs-all

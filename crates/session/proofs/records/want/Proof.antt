@@ -14,11 +14,8 @@ enum-told c = search needs
 enum-known-w : tie.Need-enum-known-w
 enum-known-w c = search needs
 
-count-pocs-requires : tie.Need-count-pocs-requires
-count-pocs-requires c κs = search needs
-
-count-hows-requires : tie.Need-count-hows-requires
-count-hows-requires c κs = search needs
+count-wishes-requires : tie.Need-count-wishes-requires
+count-wishes-requires c κs = search needs
 
 mul-poc : tie.Need-mul-poc
 mul-poc c = search needs
@@ -39,10 +36,13 @@ returns c =
 
 returns-2 : tie.Need-returns-2
 returns-2 c =
-    let s = c .before .before .before .before .before .before .before .before .before in
-    let x = c .before .before .before .before .before .before .before .w .given in
+    let at-count-wishes = c .before .before in
+    let m = at-count-wishes .before .before .before .before in
+    let s = m .before .before in
+    let x = m .w .given in
+    let n = at-count-wishes .count-wishes .ensures in
     let f : SFits w32 (x .0 .0 .poc) = search needs in
-    wants-is (s .args .w) (s .args .i) (now (s .args .pocs)) (now (s .args .hows)) (x .0 .0) _ _ (c .before .before .before .before .count-pocs .ensures .1) (c .before .before .count-hows .ensures .1) (s .pre) (x .1)
+    wants-is (s .args .w) (s .args .i) (now (s .args .pocs)) (now (s .args .hows)) (x .0 .0) _ _ (n .1) (n .2) (s .pre) (x .1)
     (toZ-ofZ w32 (x .0 .0 .poc) f) (c .how-of .ensures)
 
 pub want-spec : {M : Type 1} → statement M
@@ -51,8 +51,7 @@ want-spec =
     (tie.spec
     enum-told
     enum-known-w
-    count-pocs-requires
-    count-hows-requires
+    count-wishes-requires
     mul-poc
     element-set-from-poc
     how-of-requires

@@ -52,11 +52,12 @@ loop-less c = search needs
 
 loop-again : tie.Need-loop-again Inv-loop μ-loop
 loop-again c =
-    let l = c .before .before .before .before .before .before in
+    let at-long-entry = c .before .before .before .before in
+    let l = at-long-entry .before .before in
     let a = l .before .before .args in
     let g = longWish (2 ^ (min (a .k) 16)) (toZ w32 (ofZ w32 (a .poc))) in
     let f = longAt (now (a .msg)) (16 + 5 * a .from) in
-    let e : c .before .before .before .long-wish .result ≡ wantedOf (g (f (l .loop .i))) = c .before .before .before .long-wish .ensures .0 ∙ rw (c .before .before .before .before .long-entry .ensures) in
+    let e : c .before .before .before .long-wish .result ≡ wantedOf (g (f (l .loop .i))) = c .before .before .before .long-wish .ensures .0 ∙ rw (at-long-entry .long-entry .ensures) in
     (omega arith, wants-more g f (a .from) (l .loop .i) (a .from + l .loop .i) (omega arith) e (l .loop .inv .1) (c .want .ensures))
 
 returns : tie.Need-returns Inv-loop μ-loop

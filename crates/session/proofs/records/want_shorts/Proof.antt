@@ -43,11 +43,12 @@ loop-less c = search needs
 
 loop-again : tie.Need-loop-again Inv-loop μ-loop
 loop-again c =
-    let l = c .before .before .before .before .before .before in
+    let at-short-entry = c .before .before .before .before in
+    let l = at-short-entry .before .before in
     let a = l .before .before .args in
     let g = shortWish (toZ w32 (ofZ w32 (a .poc))) in
     let f = shortAt (now (a .msg)) 16 in
-    let e : c .before .before .before .short-wish .result ≡ wantedOf (g (f (l .loop .i))) = c .before .before .before .short-wish .ensures .0 ∙ rw (c .before .before .before .before .short-entry .ensures) in
+    let e : c .before .before .before .short-wish .result ≡ wantedOf (g (f (l .loop .i))) = c .before .before .before .short-wish .ensures .0 ∙ rw (at-short-entry .short-entry .ensures) in
     (omega arith, wants-more g f 0 (l .loop .i) (l .loop .i) (omega arith) e (l .loop .inv .1) (c .want .ensures))
 
 returns : tie.Need-returns Inv-loop μ-loop

@@ -27,8 +27,9 @@ want-longs-requires c κs = search needs
 
 returns : tie.Need-returns
 returns c =
-    let s = c .before .before .before .before .before .before .before .before .before .before in
-    holds-wishes (2 ^ (min (s .args .k) 16)) (s .args .poc) (now (s .args .msg)) (s .pre .0) (toZ-ofZ (s .fits .poc)) (c .before .before .before .before .want-shorts .ensures) (c .want-longs .ensures)
+    let at-want-shorts = c .before .before .before .before in
+    let s = at-want-shorts .before .before .before .before .before .before in
+    holds-wishes (2 ^ (min (s .args .k) 16)) (s .args .poc) (now (s .args .msg)) (s .pre .0) (toZ-ofZ (s .fits .poc)) (at-want-shorts .want-shorts .ensures) (c .want-longs .ensures)
 
 pub wishes-spec : {M : Type 1} → statement M
 wishes-spec =

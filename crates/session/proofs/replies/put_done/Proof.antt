@@ -15,7 +15,9 @@ sub-put-head : tie.Need-sub-put-head
 sub-put-head c = search needs
 
 cast-put-head : tie.Need-cast-put-head
-cast-put-head c = omega (arith, tail-room (c .before .before .before .before .before .before .args .x) (c .before .before .before .before .before .before .pre .0))
+cast-put-head c =
+    let s = c .before .before .before .before .before .before in
+    omega (arith, tail-room (s .args .x) (s .pre .0))
 
 put-head-requires : tie.Need-put-head-requires
 put-head-requires c κs = search needs
@@ -25,8 +27,11 @@ same-length c = search needs
 
 returns : tie.Need-returns
 returns c =
-    let a = c .before .before .before .before .before .before .before .before .before .args in
-    framed-last (now (a .d)) (tailBytes (tailIn (a .x))) (a .kind) (c .before .before .before .before .before .before .put-tail .ensures) (omega (arith, tail-room (a .x) (c .before .before .before .before .before .before .before .before .before .pre .0))) (c .before .before .put-head .ensures)
+    let at-put-head = c .before .before in
+    let at-put-tail = at-put-head .before .before .before .before in
+    let s = at-put-tail .before .before .before in
+    let a = s .args in
+    framed-last (now (a .d)) (tailBytes (tailIn (a .x))) (a .kind) (at-put-tail .put-tail .ensures) (omega (arith, tail-room (a .x) (s .pre .0))) (at-put-head .put-head .ensures)
 
 pub put-done-spec : {M : Type 1} → statement M
 put-done-spec =

@@ -60,11 +60,12 @@ loop-less c = search needs
 
 loop-again : tie.Need-loop-again Inv-loop μ-loop
 loop-again c =
-    let k = c .before .before .before .before .before .before in
+    let at-put-shown = c .before .before in
+    let k = at-put-shown .before .before .before .before in
     let l = k .loop in
     let u = k .before .before .before .put-u8 in
     let a = k .before .before .before .before .before .before .args in
-    (search needs, search needs, laid-more shownBytes (λ (j : ℕ). getD (a .t3 .handed) j noShown) shownWidth length-shown (u .last .0) (u .result) (l .i) (l .inv .2) (c .before .before .put-shown .kept .0) (c .before .before .put-shown .ensures .1))
+    (search needs, search needs, laid-more shownBytes (λ (j : ℕ). getD (a .t3 .handed) j noShown) shownWidth length-shown (u .last .0) (u .result) (l .i) (l .inv .2) (at-put-shown .put-shown .kept .0) (at-put-shown .put-shown .ensures .1))
 
 mul-result : tie.Need-mul-result Inv-loop μ-loop
 mul-result c = search needs
@@ -77,9 +78,11 @@ same-length c = search needs
 
 returns : tie.Need-returns Inv-loop μ-loop
 returns c =
+    let at-put-u8 = c .before .before .before .before in
+    let s = at-put-u8 .before .before .before in
     let l = c .before .loop in
-    let u = c .before .before .before .before .put-u8 in
-    let a = c .before .before .before .before .before .before .before .args in
+    let u = at-put-u8 .put-u8 in
+    let a = s .args in
     let n = a .t3 .shown in
     let X = flat shownBytes (take n (a .t3 .handed)) in
     let e : l .i ≡ n = omega arith in

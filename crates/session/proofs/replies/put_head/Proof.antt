@@ -21,9 +21,13 @@ same-length c = search needs
 
 returns : tie.Need-returns
 returns c =
-    let a = c .before .before .before .before .before .before .before .before .before .before .before .before .before .args in
+    let at-put-u163 = c .before .before in
+    let at-put-u162 = at-put-u163 .before .before .before .before in
+    let at-put-u16 = at-put-u162 .before .before .before .before in
+    let s = at-put-u16 .before .before .before in
+    let a = s .args in
     let D = now (a .d) in
-    run-on D 0 (bytes16 (a .body) ++ bytes16 (a .kind)) (bytes16 (a .number)) (run-on D 0 (bytes16 (a .body)) (bytes16 (a .kind)) (c .before .before .before .before .before .before .before .before .before .before .put-u16 .ensures) (c .before .before .before .before .before .before .put-u162 .ensures)) (c .before .before .put-u163 .ensures)
+    run-on D 0 (bytes16 (a .body) ++ bytes16 (a .kind)) (bytes16 (a .number)) (run-on D 0 (bytes16 (a .body)) (bytes16 (a .kind)) (at-put-u16 .put-u16 .ensures) (at-put-u162 .put-u162 .ensures)) (at-put-u163 .put-u163 .ensures)
 
 pub put-head-spec : {M : Type 1} → statement M
 put-head-spec =

@@ -5,12 +5,11 @@ use mathlib.Core.List.{[], _∷_, _++_}
 use Prim.Native.Nat.{_*_}
 use native.Mathlib.Omega.{arith}
 use denote.Ref.{now}
-use lib.ListN.{length, take}
-use Rattle.paper.specs.declared.Serial.{Serial}
-use Rattle.paper.specs.Numbers.{serialNos}
+use lib.ListN.{length}
 use Rattle.paper.specs.Kinds.{listsKind, replyTo}
 use Rattle.paper.specs.Replies.{words}
-use Rattle.session.proofs.Bytes.{run, run-on, framed-last, held-words, listed}
+use Rattle.session.specs.Written.{numbersFrom}
+use Rattle.session.proofs.Bytes.{run, run-on, framed-last, length-numbers, listed}
 use Rattle.session.proofs.replies.put_lists.Statement.{statement}
 use Rattle.session.proofs.replies.put_lists.Tie as tie
 
@@ -26,11 +25,11 @@ cast-put-u8-2 c = search needs
 put-u8-requires-2 : tie.Need-put-u8-requires-2
 put-u8-requires-2 c κs = search needs
 
-put-serials-requires : tie.Need-put-serials-requires
-put-serials-requires c κs = search needs
+put-run-requires : tie.Need-put-run-requires
+put-run-requires c κs = search needs
 
-put-serials-requires-2 : tie.Need-put-serials-requires-2
-put-serials-requires-2 c κs = search needs
+put-run-requires-2 : tie.Need-put-run-requires-2
+put-run-requires-2 c κs = search needs
 
 sub-put-head : tie.Need-sub-put-head
 sub-put-head c = search needs
@@ -46,25 +45,30 @@ same-length c = search needs
 
 returns : tie.Need-returns
 returns c =
-    let s = c .before .before .before .before .before .before .before .before .before .before .before .before .before .before .before .before .before .before .before .before .before .before .before in
+    let at-put-head = c .before .before in
+    let at-put-run2 = at-put-head .before .before .before .before in
+    let at-put-run = at-put-run2 .before .before .before .before in
+    let at-put-u82 = at-put-run .before .before .before .before in
+    let at-put-u8 = at-put-u82 .before .before .before .before in
+    let s = at-put-u8 .before .before .before .before .before in
     let a = s .args in
     let x = a .x in
     let y = a .y in
     let h = s .pre .0 in
     let k = s .pre .1 in
     let D = now (a .d) in
-    let u = c .before .before .before .before .before .before .before .before .before .before .before .before .before .before .put-u82 in
-    let v = c .before .before .before .before .before .before .before .before .before .before .put-serials in
-    let w = c .before .before .before .before .before .before .put-serials2 in
-    let X = words (serialNos (take (x .len) (x .items))) in
-    let Y = words (serialNos (take (y .len) (y .items))) in
-    let lx : length X ≡ 4 * x .len = held-words (h .holds) (λ (n : Serial). n .0) in
-    let ly : length Y ≡ 4 * y .len = held-words (k .holds) (λ (n : Serial). n .0) in
-    let e1 = run-on D 6 (x .len ∷ []) (y .len ∷ []) (c .before .before .before .before .before .before .before .before .before .before .before .before .before .before .before .before .before .before .put-u8 .ensures) (u .ensures) in
+    let u = at-put-u82 .put-u82 in
+    let v = at-put-run .put-run in
+    let w = at-put-run2 .put-run2 in
+    let X = words (numbersFrom (x .items) 0 (x .len)) in
+    let Y = words (numbersFrom (y .items) 0 (y .len)) in
+    let lx : length X ≡ 4 * x .len = length-numbers (x .items) 0 (x .len) in
+    let ly : length Y ≡ 4 * y .len = length-numbers (y .items) 0 (y .len) in
+    let e1 = run-on D 6 (x .len ∷ []) (y .len ∷ []) (at-put-u8 .put-u8 .ensures) (u .ensures) in
     let e2 = run-on D 6 (x .len ∷ y .len ∷ []) X e1 (run (u .last .0) (u .result) X lx (v .ensures)) in
     let e3 = run-on D 6 (x .len ∷ y .len ∷ X) Y e2 (run (v .last .0) (v .result) Y ly (w .ensures)) in
     rw (listed x y h k)
-    (framed-last D ((x .len ∷ y .len ∷ X) ++ Y) (replyTo listsKind) e3 (omega (arith, lx, ly, h .holds .room, k .holds .room, s .pre .2 .room)) (c .before .before .put-head .ensures))
+    (framed-last D ((x .len ∷ y .len ∷ X) ++ Y) (replyTo listsKind) e3 (omega (arith, lx, ly, h .holds .room, k .holds .room, s .pre .2 .room)) (at-put-head .put-head .ensures))
 
 pub put-lists-spec : {M : Type 1} → statement M
 put-lists-spec =
@@ -74,8 +78,8 @@ put-lists-spec =
     put-u8-requires
     cast-put-u8-2
     put-u8-requires-2
-    put-serials-requires
-    put-serials-requires-2
+    put-run-requires
+    put-run-requires-2
     sub-put-head
     cast-put-head
     put-head-requires

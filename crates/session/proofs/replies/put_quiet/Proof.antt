@@ -32,13 +32,17 @@ same-length c = search needs
 returns : tie.Need-returns
 unfolding tailBytes words flat
 returns c =
-    let s = c .before .before .before .before .before .before .before .before .before .before .before .before .before .before .before .before .before in
+    let at-put-u83 = c .before .before in
+    let at-put-u82 = at-put-u83 .before .before .before .before in
+    let at-put-u8 = at-put-u82 .before .before .before .before in
+    let at-put-head = at-put-u8 .before .before .before .before in
+    let s = at-put-head .before .before .before in
     let a = s .args in
     let D = now (a .d) in
     let H : List ℕ = bytes16 5 ++ bytes16 (a .kind) ++ bytes16 0 in
-    let e1 = run-on D 0 H (0 ∷ []) (c .before .before .before .before .before .before .before .before .before .before .before .before .before .before .put-head .ensures) (c .before .before .before .before .before .before .before .before .before .before .put-u8 .ensures) in
-    let e2 = run-on D 0 (H ++ (0 ∷ [])) (0 ∷ []) e1 (c .before .before .before .before .before .before .put-u82 .ensures) in
-    let e3 = run-on D 0 (H ++ (0 ∷ []) ++ (0 ∷ [])) (0 ∷ []) e2 (c .before .before .put-u83 .ensures) in
+    let e1 = run-on D 0 H (0 ∷ []) (at-put-head .put-head .ensures) (at-put-u8 .put-u8 .ensures) in
+    let e2 = run-on D 0 (H ++ (0 ∷ [])) (0 ∷ []) e1 (at-put-u82 .put-u82 .ensures) in
+    let e3 = run-on D 0 (H ++ (0 ∷ []) ++ (0 ∷ [])) (0 ∷ []) e2 (at-put-u83 .put-u83 .ensures) in
     record { answer = rw (e3 .0); bytes = e3 .1 ∙ sets-over (framed (a .kind) 0 (tailBytes quiet)) D (omega (arith, s .pre .room)) }
 
 pub put-quiet-spec : {M : Type 1} → statement M

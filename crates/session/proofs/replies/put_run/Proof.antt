@@ -47,9 +47,12 @@ loop-less c = search needs
 
 loop-again : tie.Need-loop-again Inv-loop μ-loop
 loop-again c =
-    let l = c .before .before .before .before .before .before .loop in
-    let a = c .before .before .before .before .before .before .before .before .args in
-    (search needs, search needs, laid-more bytes32 (λ (j : ℕ). getD (a .t3) (a .from + j) blankSerial .0) 4 length-bytes32 (now (a .d)) (a .at) (l .i) (l .inv .2) (c .before .before .put-u32 .kept .0) (c .before .before .put-u32 .ensures .1))
+    let at-put-u32 = c .before .before in
+    let at-loop = at-put-u32 .before .before .before .before in
+    let s = at-loop .before .before in
+    let l = at-loop .loop in
+    let a = s .args in
+    (search needs, search needs, laid-more bytes32 (λ (j : ℕ). getD (a .t3) (a .from + j) blankSerial .0) 4 length-bytes32 (now (a .d)) (a .at) (l .i) (l .inv .2) (at-put-u32 .put-u32 .kept .0) (at-put-u32 .put-u32 .ensures .1))
 
 mul-result : tie.Need-mul-result Inv-loop μ-loop
 mul-result c = search needs

@@ -28,15 +28,19 @@ same-length c = search needs
 returns : tie.Need-returns
 unfolding bytes32
 returns c =
-    let a = c .before .before .before .before .before .before .before .before .before .before .before .before .before .before .before .before .before .args in
+    let s = c .before .before .before .before .before .before .before .before .before .before .before .before .before .before .before .before .before in
+    let a = s .args in
     let p = a .p in
     let D = now (a .d) in
     let X = bytes32 (p .serial .0) in
     let Y = bytes32 (p .surface .0) in
-    let z : toZ w32 (ofZ w32 (p .poc)) ≡ p .poc = search (needs, c .before .before .before .before .before .before .before .before .before .before .before .before .before .before .before .before .before .good) in
-    let b : c .before .before .before .bits .result ≡ ofZ w32 (p .poc) = c .before .before .before .bits .ensures ∙ ap (ofZ w32) z in
+    let z : toZ w32 (ofZ w32 (p .poc)) ≡ p .poc = search (needs, s .good) in
+    let at-bits = c .before .before .before in
+    let at-put-u322 = at-bits .before .before .before .before .before in
+    let at-put-u32 = at-put-u322 .before .before .before .before in
+    let b : at-bits .bits .result ≡ ofZ w32 (p .poc) = at-bits .bits .ensures ∙ ap (ofZ w32) z in
     let e3 = rw b at (c .before .before .put-u323 .ensures) in
-    run-on D (a .at) (X ++ Y) (signed32 (p .poc)) (run-on D (a .at) X Y (c .before .before .before .before .before .before .before .before .before .before .before .before .put-u32 .ensures) (c .before .before .before .before .before .before .before .before .put-u322 .ensures)) e3
+    run-on D (a .at) (X ++ Y) (signed32 (p .poc)) (run-on D (a .at) X Y (at-put-u32 .put-u32 .ensures) (at-put-u322 .put-u322 .ensures)) e3
 
 pub put-shown-spec : {M : Type 1} → statement M
 put-shown-spec =

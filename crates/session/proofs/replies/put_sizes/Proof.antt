@@ -32,7 +32,9 @@ put-u8-requires-4 : tie.Need-put-u8-requires-4
 put-u8-requires-4 c κs = search needs
 
 cast-put-u8-5 : tie.Need-cast-put-u8-5
-cast-put-u8-5 c = omega (arith, c .before .before .before .before .before .before .before .before .before .before .before .before .before .before .before .before .before .before .before .before .before .before .before .pre .0 .all)
+cast-put-u8-5 c =
+    let s = c .before .before .before .before .before .before .before .before .before .before .before .before .before .before .before .before .before .before .before .before .before .before .before in
+    omega (arith, s .pre .0 .all)
 
 put-u8-requires-5 : tie.Need-put-u8-requires-5
 put-u8-requires-5 c κs = search needs
@@ -42,13 +44,19 @@ same-length c = search needs
 
 returns : tie.Need-returns
 returns c =
-    let a = c .before .before .before .before .before .before .before .before .before .before .before .before .before .before .before .before .before .before .before .before .before .before .before .before .before .before .args in
+    let at-put-u85 = c .before .before in
+    let at-put-u84 = at-put-u85 .before .before .before .before .before in
+    let at-put-u83 = at-put-u84 .before .before .before .before .before in
+    let at-put-u82 = at-put-u83 .before .before .before .before .before in
+    let at-put-u8 = at-put-u82 .before .before .before .before .before in
+    let s = at-put-u8 .before .before .before .before in
+    let a = s .args in
     let x = a .x in
     let D = now (a .d) in
-    let e2 = run-on D (a .at) (x .before ∷ []) (x .after ∷ []) (c .before .before .before .before .before .before .before .before .before .before .before .before .before .before .before .before .before .before .before .before .before .before .put-u8 .ensures) (c .before .before .before .before .before .before .before .before .before .before .before .before .before .before .before .before .before .put-u82 .ensures) in
-    let e3 = run-on D (a .at) (x .before ∷ x .after ∷ []) (x .foll ∷ []) e2 (c .before .before .before .before .before .before .before .before .before .before .before .before .put-u83 .ensures) in
-    let e4 = run-on D (a .at) (x .before ∷ x .after ∷ x .foll ∷ []) (x .long ∷ []) e3 (c .before .before .before .before .before .before .before .put-u84 .ensures) in
-    run-on D (a .at) (x .before ∷ x .after ∷ x .foll ∷ x .long ∷ []) (x .«lt_foll» ∷ []) e4 (c .before .before .put-u85 .ensures)
+    let e2 = run-on D (a .at) (x .before ∷ []) (x .after ∷ []) (at-put-u8 .put-u8 .ensures) (at-put-u82 .put-u82 .ensures) in
+    let e3 = run-on D (a .at) (x .before ∷ x .after ∷ []) (x .foll ∷ []) e2 (at-put-u83 .put-u83 .ensures) in
+    let e4 = run-on D (a .at) (x .before ∷ x .after ∷ x .foll ∷ []) (x .long ∷ []) e3 (at-put-u84 .put-u84 .ensures) in
+    run-on D (a .at) (x .before ∷ x .after ∷ x .foll ∷ x .long ∷ []) (x .«lt_foll» ∷ []) e4 (at-put-u85 .put-u85 .ensures)
 
 pub put-sizes-spec : {M : Type 1} → statement M
 put-sizes-spec =

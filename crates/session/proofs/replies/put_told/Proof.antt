@@ -28,14 +28,19 @@ same-length c = search needs
 returns : tie.Need-returns
 unfolding bytes32
 returns c =
-    let a = c .before .before .before .before .before .before .before .before .before .before .before .before .before .before .before .before .args in
+    let at-put-u322 = c .before .before in
+    let at-put-u8 = at-put-u322 .before .before .before .before in
+    let at-put-u32 = at-put-u8 .before .before .before .before in
+    let at-bits = at-put-u32 .before in
+    let s = at-bits .before .before .before .before .before in
+    let a = s .args in
     let t = a .t in
     let D = now (a .d) in
     let X = signed32 (t .poc) in
-    let z : toZ w32 (ofZ w32 (t .poc)) ≡ t .poc = search (needs, c .before .before .before .before .before .before .before .before .before .before .before .before .before .before .before .before .good) in
-    let b : c .before .before .before .before .before .before .before .before .before .before .before .bits .result ≡ ofZ w32 (t .poc) = c .before .before .before .before .before .before .before .before .before .before .before .bits .ensures ∙ ap (ofZ w32) z in
-    let e1 = rw b at (c .before .before .before .before .before .before .before .before .before .before .put-u32 .ensures) in
-    run-on D (a .at) (X ++ (t .flags ∷ [])) (bytes32 (t .serial .0)) (run-on D (a .at) X (t .flags ∷ []) e1 (c .before .before .before .before .before .before .put-u8 .ensures)) (c .before .before .put-u322 .ensures)
+    let z : toZ w32 (ofZ w32 (t .poc)) ≡ t .poc = search (needs, s .good) in
+    let b : at-bits .bits .result ≡ ofZ w32 (t .poc) = at-bits .bits .ensures ∙ ap (ofZ w32) z in
+    let e1 = rw b at (at-put-u32 .put-u32 .ensures) in
+    run-on D (a .at) (X ++ (t .flags ∷ [])) (bytes32 (t .serial .0)) (run-on D (a .at) X (t .flags ∷ []) e1 (at-put-u8 .put-u8 .ensures)) (at-put-u322 .put-u322 .ensures)
 
 pub put-told-spec : {M : Type 1} → statement M
 put-told-spec =

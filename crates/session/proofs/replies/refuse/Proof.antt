@@ -17,8 +17,9 @@ same-length c = search needs
 
 returns : tie.Need-returns
 returns c =
-    let s = c .before .before .before .before .before .before in
-    refused-says (s .args .kind) (s .args .why) (now (s .args .reply)) (c .before .before .before .before .number .ensures) (c .before .before .put-head .ensures) (omega (arith, s .pre .room))
+    let at-number = c .before .before .before .before in
+    let s = at-number .before .before in
+    refused-says (s .args .kind) (s .args .why) (now (s .args .reply)) (at-number .number .ensures) (c .before .before .put-head .ensures) (omega (arith, s .pre .room))
 
 pub refuse-spec : {M : Type 1} → statement M
 refuse-spec = tie.close (tie.spec number-requires put-head-requires same-length returns)

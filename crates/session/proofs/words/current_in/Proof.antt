@@ -44,8 +44,10 @@ element-copy-out-t23 c = search needs
 
 returns : tie.Need-returns
 returns c =
-    let p : toZ w32 (ofZ w32 (c .before .before .before .before .before .before .before .before .before .before .signed .result)) ≡ c .before .before .before .before .before .before .before .before .before .before .signed .result = search needs in
-    let m : toZ w32 (ofZ w32 (c .before .before .before .before .before .before .signed2 .result)) ≡ c .before .before .before .before .before .before .signed2 .result = search needs in
+    let at-signed2 = c .before .before .before .before .before .before in
+    let at-signed = at-signed2 .before .before .before .before in
+    let p : toZ w32 (ofZ w32 (at-signed .signed .result)) ≡ at-signed .signed .result = search needs in
+    let m : toZ w32 (ofZ w32 (at-signed2 .signed2 .result)) ≡ at-signed2 .signed2 .result = search needs in
     cc
 
 pub current-in-spec : {M : Type 1} → statement M

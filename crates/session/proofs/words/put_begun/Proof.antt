@@ -9,8 +9,8 @@ use Rattle.session.proofs.Fronts.{front-begun, words-begun}
 use Rattle.session.proofs.words.put_begun.Statement.{statement}
 use Rattle.session.proofs.words.put_begun.Tie as tie
 
-count-head-requires : tie.Need-count-head-requires
-count-head-requires c κs = search needs
+count-front-requires : tie.Need-count-front-requires
+count-front-requires c κs = search needs
 
 element-write-h : tie.Need-element-write-h
 element-write-h c = search needs
@@ -88,7 +88,7 @@ returns c =
     let em : c .before .before .before .before .before .bits2 .result ≡ ofZ w32 (x .msb) = c .before .before .before .before .before .bits2 .ensures ∙ ap (ofZ w32) (toZ-ofZ w32 (x .msb) m) in
     let h = now (s .args .h) in
     rw (ep, em, c .before .before .before .before .flag-word .ensures, c .before .before .before .flag-word2 .ensures) (
-      front-begun h (c .before .before .before .before .before .before .before .before .before .before .before .before .count-head .ensures .1) x (s .args .x) (s .args .next) p (search needs) m (search needs) (search needs) (search needs),
+      front-begun h (c .before .before .before .before .before .before .before .before .before .before .before .before .count-front .ensures .1) x (s .args .x) (s .args .next) p (search needs) m (search needs) (search needs) (search needs),
       λ f e. words-begun h f e x (s .args .x) (s .args .next),
     )
 
@@ -96,7 +96,7 @@ pub put-begun-spec : {M : Type 1} → statement M
 put-begun-spec =
     tie.close
     (tie.spec
-    count-head-requires
+    count-front-requires
     element-write-h
     element-write-h-2
     element-write-h-3

@@ -9,8 +9,8 @@ use Rattle.session.proofs.Fronts.{front-none, front-tid0, words-none, w
 use Rattle.session.proofs.words.put_idle.Statement.{statement}
 use Rattle.session.proofs.words.put_idle.Tie as tie
 
-count-head-requires : tie.Need-count-head-requires
-count-head-requires c κs = search needs
+count-front-requires : tie.Need-count-front-requires
+count-front-requires c κs = search needs
 
 element-write-h : tie.Need-element-write-h
 element-write-h c = search needs
@@ -78,22 +78,24 @@ element-write-h-17 c = search needs
 returns : tie.Need-returns
 returns c =
     let h = now (c .before .before .before .before .args .h) in
-    rw (c .enum-told .given .1) (front-none h (c .before .before .count-head .ensures .1), λ f e. words-none h f e)
+    rw (c .enum-told .given .1) (front-none h (c .before .before .count-front .ensures .1), λ f e. words-none h f e)
 
 returns-2 : tie.Need-returns-2
 returns-2 c =
-    let h = now (c .before .before .before .before .before .before .args .h) in
+    let at-count-front = c .before .before .before .before in
+    let s = at-count-front .before .before in
+    let h = now (s .args .h) in
     let q = c .before .before .q .given in
     let m : SFits w32 (q .0 .1 .0) = search needs in
     let b : c .bits .result ≡ ofZ w32 (q .0 .1 .0) = c .bits .ensures ∙ ap (ofZ w32) (toZ-ofZ w32 (q .0 .1 .0) m) in
     rw (q .1, b)
-    (front-tid0 h (c .before .before .before .before .count-head .ensures .1) (q .0 .0) (q .0 .1 .0) (search needs) m, λ f e. words-tid0 h f e (q .0 .0) (q .0 .1 .0))
+    (front-tid0 h (at-count-front .count-front .ensures .1) (q .0 .0) (q .0 .1 .0) (search needs) m, λ f e. words-tid0 h f e (q .0 .0) (q .0 .1 .0))
 
 pub put-idle-spec : {M : Type 1} → statement M
 put-idle-spec =
     tie.close
     (tie.spec
-    count-head-requires
+    count-front-requires
     element-write-h
     element-write-h-2
     element-write-h-3

@@ -5,8 +5,8 @@ use Rattle.session.proofs.Fronts.{front-limits, words-limits}
 use Rattle.session.proofs.words.put_limits.Statement.{statement}
 use Rattle.session.proofs.words.put_limits.Tie as tie
 
-count-head-requires : tie.Need-count-head-requires
-count-head-requires c κs = search needs
+count-front-requires : tie.Need-count-front-requires
+count-front-requires c κs = search needs
 
 element-write-h : tie.Need-element-write-h
 element-write-h c = search needs
@@ -43,9 +43,10 @@ element-write-h-6 c = search needs
 
 returns : tie.Need-returns
 returns c =
-    let s = c .before .before .before .before .before .before .before in
+    let at-count-front = c .before .before .before .before .before in
+    let s = at-count-front .before .before in
     let h = now (s .args .h) in (
-      front-limits h (c .before .before .before .before .before .count-head .ensures .1) (s .args .l) (search needs) (search needs) (search needs) (search needs) (search needs),
+      front-limits h (at-count-front .count-front .ensures .1) (s .args .l) (search needs) (search needs) (search needs) (search needs) (search needs),
       λ f e. words-limits h f e (s .args .l),
     )
 
@@ -53,7 +54,7 @@ pub put-limits-spec : {M : Type 1} → statement M
 put-limits-spec =
     tie.close
     (tie.spec
-    count-head-requires
+    count-front-requires
     element-write-h
     cast-h
     element-write-h-2

@@ -39,7 +39,9 @@ end-waiting-requires : tie.Need-end-waiting-requires Inv-loop μ-loop
 end-waiting-requires c κs = tt
 
 seen-requires : tie.Need-seen-requires Inv-loop μ-loop
-seen-requires c κs = omega (arith, scan-few (c .before .before .before .before .before .before .before .loop .inv .1 .scan))
+seen-requires c κs =
+    let at-loop = c .before .before .before .before .before .before .before in
+    omega (arith, scan-few (at-loop .loop .inv .1 .scan))
 
 mul-places : tie.Need-mul-places Inv-loop μ-loop
 mul-places c = omega arith
@@ -58,8 +60,10 @@ loop-less c = omega arith
 
 loop-again : tie.Need-loop-again Inv-loop μ-loop
 loop-again c =
-    let l = c .before .before .before .before .before .before .loop in
-    let a = c .before .before .before .before .before .before .before .before .args in
+    let at-loop = c .before .before .before .before .before .before in
+    let s = at-loop .before .before in
+    let l = at-loop .loop in
+    let a = s .args in
     let gone = eqb (a .serial .0) (placeAt (l .places) (l .i) .serial .0) && a .leaves in (
       omega arith,
       ⊎-elim

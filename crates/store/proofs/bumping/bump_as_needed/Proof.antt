@@ -44,10 +44,16 @@ needs-bumping-requires : tie.Need-needs-bumping-requires Inv-loop μ-loop
 needs-bumping-requires c κs = tt
 
 mul-p : tie.Need-mul-p Inv-loop μ-loop
-mul-p c = omega (arith, found-at (c .before .before .before .before .before .before .loop .inv) (c .before .before .before .low .given .1))
+mul-p c =
+    let at-low = c .before .before .before in
+    let at-loop = at-low .before .before .before in
+    omega (arith, found-at (at-loop .loop .inv) (at-low .low .given .1))
 
 array-copy-out-p : tie.Need-array-copy-out-p Inv-loop μ-loop
-array-copy-out-p c = found-at (c .before .before .before .before .before .before .loop .inv) (c .before .before .before .low .given .1)
+array-copy-out-p c =
+    let at-low = c .before .before .before in
+    let at-loop = at-low .before .before .before in
+    found-at (at-loop .loop .inv) (at-low .low .given .1)
 
 leaves-requires : tie.Need-leaves-requires Inv-loop μ-loop
 leaves-requires c κs = tt
@@ -58,8 +64,10 @@ shown-of-requires c κs = tt
 -- both parts of the tail have room for one more
 rooms : (c : tie.Else1 Inv-loop μ-loop) → (c .before .before .before .before .before .before .loop .handed .len < 16) × (c .before .before .before .before .before .before .loop .released .len < 17)
 rooms c =
-    let g = c .before .before .before .before .before .before .loop .inv in
-    let e = c .before .before .before .low .given .1 in
+    let at-low = c .before .before .before in
+    let at-loop = at-low .before .before .before in
+    let g = at-loop .loop .inv in
+    let e = at-low .low .given .1 in
     (found-handed g e, found-released g e)
 
 mul-t26 : tie.Need-mul-t26 Inv-loop μ-loop
@@ -81,13 +89,20 @@ add-released : tie.Need-add-released Inv-loop μ-loop
 add-released c = omega (arith, rooms (c .before .before .before .before .before .before) .1)
 
 bump-requires : tie.Need-bump-requires Inv-loop μ-loop
-bump-requires c κs = c .before .before .before .before .before .before .before .before .before .before .before .before .loop .inv .gathers .places
+bump-requires c κs =
+    let at-loop = c .before .before .before .before .before .before .before .before .before .before .before .before in
+    at-loop .loop .inv .gathers .places
 
 add-i : tie.Need-add-i Inv-loop μ-loop
-add-i c = omega (arith, c .before .before .before .before .before .before .before .before .before .before .before .before .before .before .loop-test .taken, c .before .before .before .before .before .before .before .before .before .before .before .before .before .before .before .before .before .before .pre .1)
+add-i c =
+    let at-loop-test = c .before .before .before .before .before .before .before .before .before .before .before .before .before .before in
+    let s = at-loop-test .before .before .before .before in
+    omega (arith, at-loop-test .loop-test .taken, s .pre .1)
 
 loop-less : tie.Need-loop-less Inv-loop μ-loop
-loop-less c = omega (arith, c .before .before .before .before .before .before .before .before .before .before .before .before .before .before .loop-test .taken)
+loop-less c =
+    let at-loop-test = c .before .before .before .before .before .before .before .before .before .before .before .before .before .before in
+    omega (arith, at-loop-test .loop-test .taken)
 
 loop-again : tie.Need-loop-again Inv-loop μ-loop
 loop-again c =
@@ -116,8 +131,10 @@ of-requires c κs = tt
 
 returns : tie.Need-returns Inv-loop μ-loop
 returns c =
-    let l = c .before .before .before .loop in
-    let a = c .before .before .before .before .before .before .args in
+    let at-loop = c .before .before .before in
+    let s = at-loop .before .before .before in
+    let l = at-loop .loop in
+    let a = s .args in
     let g : Gathers (l .places) (l .len) (l .handed) (l .released) (andThen (startedIn (a .ps) (a .n) (a .x)) (turnsBy (a .rule))) =
     ⊎-elim
     (λ w. turned-all (l .inv) (w .left))

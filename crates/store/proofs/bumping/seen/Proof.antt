@@ -18,9 +18,11 @@ lower-requires c κs = search needs
 
 returns-2 : tie.Need-returns-2
 returns-2 c =
-    let p = c .before .before .before .before .before .before .before .args .p in
+    let at-if1 = c .before .before .before .before .before in
+    let s = at-if1 .before .before in
+    let p = s .args .p in
     let f : SFits w32 (p .poc) = search needs in
-    rw (c .lower .ensures, not-false (p .waiting) (c .before .before .before .before .before .if1 .left), toZ-ofZ w32 (p .poc) f)
+    rw (c .lower .ensures, not-false (p .waiting) (at-if1 .if1 .left), toZ-ofZ w32 (p .poc) f)
 
 pub seen-spec : {M : Type 1} → statement M
 seen-spec = tie.close (tie.spec returns add-t7 lower-requires returns-2)

@@ -29,8 +29,10 @@ bump-as-needed-requires c κs =
 
 returns : tie.Need-returns
 returns c =
-    let l = c .before .before .before .before .before .before .args .l in
-    let t = c .before .before .before .before .before .store-picture in
+    let at-store-picture = c .before .before .before .before .before in
+    let s = at-store-picture .before in
+    let l = s .args .l in
+    let t = at-store-picture .store-picture in
     let x = c .before .none in
     subst (HoldsMoved (c .bump-as-needed .result)) (finishes l (t .result .places) (t .result .len) _ (x .result) (x .ensures) (t .ensures .1)) (c .bump-as-needed .ensures)
 

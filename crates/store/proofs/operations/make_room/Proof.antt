@@ -22,14 +22,15 @@ is-due-requires c κs = search needs
 
 bump-as-needed-requires : tie.Need-bump-as-needed-requires
 bump-as-needed-requires c κs =
-    let f = c .before .before .before .before .before .before in
+    let at-latency-of = c .before .before .before in
+    let f = at-latency-of .before .before .before in
     let s = f .before .args .s in
     let u = f .remove-unused in
     let r = u .result in (
       is-good (u .ensures .1 .1),
       omega (arith, u .ensures .0, f .before .pre),
       removes-room (s .places) (s .len) (r .places) (r .len) (u .ensures .1 .1) (u .ensures .1 .0) (f .before .pre),
-      rw (c .before .before .before .latency-of .ensures) at (c .before .before .find-lowest-poc-for-bumping .ensures),
+      rw (at-latency-of .latency-of .ensures) at (c .before .before .find-lowest-poc-for-bumping .ensures),
     )
 
 untouched-requires : tie.Need-untouched-requires
@@ -48,11 +49,12 @@ returns c =
 
 returns-2 : tie.Need-returns-2
 returns-2 c =
-    let f = c .before .before .before .before .before .before .before in
+    let at-latency-of = c .before .before .before .before in
+    let f = at-latency-of .before .before .before in
     let a = f .before .args in
     let u = f .remove-unused in
     let r = u .result in
-    let scan = rw (c .before .before .before .before .latency-of .ensures) at (c .before .before .before .find-lowest-poc-for-bumping .ensures) in
+    let scan = rw (at-latency-of .latency-of .ensures) at (c .before .before .before .find-lowest-poc-for-bumping .ensures) in
     let none = sym (c .before .before .is-due .ensures) ∙ c .before .if1 .left in
     subst (HoldsMoved (c .untouched .result)) (keeps-room (a .s .places) (a .s .len) (r .places) (r .len) (u .ensures .1 .1) (u .ensures .1 .0) (a .l) scan none) (c .untouched .ensures)
 

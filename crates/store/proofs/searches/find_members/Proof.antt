@@ -62,14 +62,15 @@ loop-less c = omega arith
 
 loop-again : tie.Need-loop-again Inv-loop μ-loop
 loop-again c =
-    let k = c .before .before .before .before .before .before in
+    let at-sought-for = c .before .before in
+    let k = at-sought-for .before .before .before .before in
     let a = k .before .args in
     let i = k .loop .i in
     let ps = take (a .m) (a .places) in
     let z : ℤ = getD (now (a .pocs)) (a .from + i) (pos 0) in
     let b : Bool = bit 1 (getD (now (a .hows)) (a .from + i) 0) in
     let f : SFits w32 z = search needs in
-    let t : c .before .before .sought-for .result ≡ soughtFor (a .long) (a .k) z b = c .before .before .sought-for .ensures ∙ ap (λ (y : ℤ). soughtFor (a .long) (a .k) y b) (toZ-ofZ w32 z f) in
+    let t : at-sought-for .sought-for .result ≡ soughtFor (a .long) (a .k) z b = at-sought-for .sought-for .ensures ∙ ap (λ (y : ℤ). soughtFor (a .long) (a .k) y b) (toZ-ofZ w32 z f) in
     let x = c .member-of .ensures ∙ ap memberOf (c .before .find-first .ensures ∙ ap (λ (y : Sought). foundOf (passing y) ps) t) in
     (omega arith, filled-more (memberFor (a .long) (a .k) ps (now (a .pocs)) (now (a .hows))) (a .from) (a .found) i (k .loop .r) _ (k .loop .inv .1) x)
 

@@ -40,8 +40,9 @@ add-split c = search needs
 
 split-requires-3 : tie.Need-split-requires-3
 split-requires-3 c κs =
-    let s = c .before .before .before .before .before .before in
-    let r = c .before .before .no-runs .ensures in
+    let at-no-runs = c .before .before in
+    let s = at-no-runs .before .before .before .before in
+    let r = at-no-runs .no-runs .ensures in
     let u = r .first .long in
     let v = r .second .long in
     let x = c .before .split .ensures in

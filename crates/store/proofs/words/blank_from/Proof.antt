@@ -6,10 +6,10 @@ use Rattle.store.proofs.words.blank_from.Statement.{statement}
 use Rattle.store.proofs.words.blank_from.Tie as tie
 
 abbrev Inv-loop : tie.InvT-loop
-Inv-loop t₀ k n i₀ t i = Blanks t₀ t k n i
+Inv-loop store₀ k n i₀ store i = Blanks store₀ store k n i
 
 abbrev μ-loop : tie.MeasureT-loop
-μ-loop t₀ k n i₀ t i = i
+μ-loop store₀ k n i₀ store i = i
 
 loop-holds : tie.Need-loop-holds Inv-loop μ-loop
 loop-holds c = blanks-none _ _ _ (c .pre .0)

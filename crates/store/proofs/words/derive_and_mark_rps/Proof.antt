@@ -8,7 +8,7 @@ use Rattle.paper.specs.Sets.{Wishes, unmarkedIf}
 use Rattle.paper.specs.declared.Picture.{Picture}
 use Rattle.store.specs.Walks.{changeBy}
 use Rattle.store.specs.declared.pictures.Change.{Change}
-use Rattle.store.specs.Shelf.{stored}
+use Rattle.store.specs.StoreWords.{stored}
 use Rattle.store.specs.Places.{front, storedIn}
 use Rattle.store.specs.Runs.{wishesIn, wishesWithin, Derives}
 use Rattle.store.proofs.Fetched.{unmarked-read}
@@ -51,15 +51,15 @@ returns c =
     let f = c .before .before .before in
     let a = f .before .before .before .args in
     let m : min (l .result .len) 16 ≡ l .result .len = omega (arith, l .ensures .0 .1) in
-    let e = unmarked-read (a .over) (storedIn (l .result)) (stored (now (a .t)))
-    (ap (front (l .result .places)) m ∙ l .ensures .1 ∙ ap (λ (x : Change). map (changeBy x) (stored (now (a .t)))) (u .ensures)) in
+    let e = unmarked-read (a .over) (storedIn (l .result)) (stored (now (a .store)))
+    (ap (front (l .result .places)) m ∙ l .ensures .1 ∙ ap (λ (x : Change). map (changeBy x) (stored (now (a .store)))) (u .ensures)) in
     let n : f .before .before .fewer .result ≡ min (a .neg) 16 = f .before .before .fewer .ensures in
     let p : f .before .fewer2 .result ≡ min (a .pos) (16 - min (a .neg) 16) = f .before .fewer2 .ensures ∙ ap (λ (x : ℕ). min (a .pos) (16 - x)) n in
     let q : f .fewer3 .result ≡ min (a .lt) (16 - min (a .neg) 16 - min (a .pos) (16 - min (a .neg) 16)) = f .fewer3 .ensures ∙ (λ i. min (a .lt) (16 - n i - p i)) in
     let w : wishesIn (now (a .pocs)) (now (a .hows)) (f .before .before .fewer .result) (f .before .fewer2 .result) (f .fewer3 .result) ≡ wishesWithin (now (a .pocs)) (now (a .hows)) (a .neg) (a .pos) (a .lt) =
     λ i. wishesIn (now (a .pocs)) (now (a .hows)) (n i) (p i) (q i)
     in
-    subst (λ (x : Wishes). Derives (2 ^ (min (a .k) 16)) (unmarkedIf (a .over) (stored (now (a .t)))) x (d .result)) w
+    subst (λ (x : Wishes). Derives (2 ^ (min (a .k) 16)) (unmarkedIf (a .over) (stored (now (a .store)))) x (d .result)) w
     (subst (λ (ps : List Picture). Derives (2 ^ (min (a .k) 16)) ps (wishesIn (now (a .pocs)) (now (a .hows)) (f .before .before .fewer .result) (f .before .fewer2 .result) (f .fewer3 .result)) (d .result)) e (d .ensures))
 
 pub derive-and-mark-rps-spec : {M : Type 1} → statement M

@@ -5,16 +5,16 @@ use mathlib.Core.Path.{_≡_, refl, ap, _∙_}
 use mathlib.Core.List.{map}
 use native.Mathlib.Omega.{arith}
 use Rattle.store.specs.Walks.{changeBy}
-use Rattle.store.specs.Shelf.{pictureAt, pictures}
+use Rattle.store.specs.StoreWords.{pictureAt, pictures}
 use Rattle.store.proofs.Saving.{Loaded, loaded-none, loaded-more, loaded-all}
 use Rattle.store.proofs.words.load.Statement.{statement}
 use Rattle.store.proofs.words.load.Tie as tie
 
 abbrev Inv-loop : tie.InvT-loop
-Inv-loop t x n places₀ i₀ places i = (i ≤ n) × Loaded (changeBy x) t places i
+Inv-loop store x n places₀ i₀ places i = (i ≤ n) × Loaded (changeBy x) store places i
 
 abbrev μ-loop : tie.MeasureT-loop
-μ-loop t x n places₀ i₀ places i = n - i
+μ-loop store x n places₀ i₀ places i = n - i
 
 used-places-requires : tie.Need-used-places-requires Inv-loop μ-loop
 used-places-requires c κs = tt
@@ -48,7 +48,7 @@ loop-again c =
     let k = c .before .before .before in
     let a = k .before .before .before .args in
     let le = k .before .before .used-places .ensures .1 in
-    let e : c .read-as .result ≡ changeBy (a .x) (pictureAt (now (a .t)) (k .loop .i)) = c .read-as .ensures ∙ ap (changeBy (a .x)) (c .before .picture-at .ensures) in
+    let e : c .read-as .result ≡ changeBy (a .x) (pictureAt (now (a .store)) (k .loop .i)) = c .read-as .ensures ∙ ap (changeBy (a .x)) (c .before .picture-at .ensures) in
     (omega arith, loaded-more (c .read-as .result) (k .loop .inv .1) (omega (arith, le)) e)
 
 returns : tie.Need-returns Inv-loop μ-loop
@@ -58,7 +58,7 @@ returns c =
     let u = k .before .before .used-places in
     let e : k .loop .i ≡ u .result = omega arith in
     let h = rw e at (k .loop .inv .1) in
-    ((u .ensures .0, u .ensures .1), loaded-all h ∙ ap (λ (n : ℕ). map (changeBy (a .x)) (pictures (now (a .t)) n)) (u .ensures .0))
+    ((u .ensures .0, u .ensures .1), loaded-all h ∙ ap (λ (n : ℕ). map (changeBy (a .x)) (pictures (now (a .store)) n)) (u .ensures .0))
 
 pub load-spec : {M : Type 1} → statement M
 load-spec =

@@ -3,7 +3,7 @@ use mathlib.Core.Path.{_≡_}
 use mir.Val.{toZ, ofZ}
 use mir.Syntax.{w32}
 use mir.Facts.{toZ-ofZ}
-use Rattle.store.specs.Shelf.{pictureAt}
+use Rattle.store.specs.StoreWords.{pictureAt}
 use borrow.Author.Needs.{needs}
 use Rattle.store.proofs.words.picture_at.Statement.{statement}
 use Rattle.store.proofs.words.picture_at.Tie as tie

@@ -6,8 +6,8 @@ use lib.Dec.{leb}
 use lib.ListN.{length}
 use denote.Ref.{now}
 use Rattle.paper.proofs.Fits.{table-length}
-use Rattle.store.specs.Shelf.{pictureAt, stored, countIn}
-use Rattle.store.proofs.Shelf.{full-is}
+use Rattle.store.specs.StoreWords.{pictureAt, stored, countIn}
+use Rattle.store.proofs.StoreWords.{full-is}
 use borrow.Author.Needs.{needs}
 use Rattle.store.proofs.words.room_in.Statement.{statement}
 use Rattle.store.proofs.words.room_in.Tie as tie
@@ -19,10 +19,10 @@ used-places-requires : tie.Need-used-places-requires
 used-places-requires c κs = search needs
 
 -- the code's test is the definition's
-tests : (c : tie.After-used-places) → (leb (c .before .before .args .l .capacity) (c .used-places .result) || leb 16 (c .used-places .result)) ≡ leb (min (c .before .before .args .l .capacity) 16) (length (stored (now (c .before .before .args .t))))
+tests : (c : tie.After-used-places) → (leb (c .before .before .args .l .capacity) (c .used-places .result) || leb 16 (c .used-places .result)) ≡ leb (min (c .before .before .args .l .capacity) 16) (length (stored (now (c .before .before .args .store))))
 tests c =
     let s = c .before .before in
-    full-is (s .args .l .capacity) (c .used-places .result) _ (c .used-places .ensures .1) (sym (table-length (pictureAt (now (s .args .t))) (countIn (now (s .args .t))) ∙ sym (c .used-places .ensures .0)))
+    full-is (s .args .l .capacity) (c .used-places .result) _ (c .used-places .ensures .1) (sym (table-length (pictureAt (now (s .args .store))) (countIn (now (s .args .store))) ∙ sym (c .used-places .ensures .0)))
 
 returns : tie.Need-returns
 returns c = (rw (← tests (c .before), c .if1 .taken), rw (← tests (c .before), c .if1 .taken))

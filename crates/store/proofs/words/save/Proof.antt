@@ -7,10 +7,10 @@ use Rattle.store.proofs.words.save.Statement.{statement}
 use Rattle.store.proofs.words.save.Tie as tie
 
 abbrev Inv-loop : tie.InvT-loop
-Inv-loop t₀ m was n i₀ t i = (i ≤ n) × Saved (m .places) t₀ t i
+Inv-loop store₀ m was n i₀ store i = (i ≤ n) × Saved (m .places) store₀ store i
 
 abbrev μ-loop : tie.MeasureT-loop
-μ-loop t₀ m was n i₀ t i = n - i
+μ-loop store₀ m was n i₀ store i = n - i
 
 used-places-requires : tie.Need-used-places-requires Inv-loop μ-loop
 used-places-requires c κs = tt
@@ -41,8 +41,9 @@ larger-requires c κs = tt
 
 blank-from-requires : tie.Need-blank-from-requires Inv-loop μ-loop
 blank-from-requires c κs =
-    let s = c .before .before .before .before .before .before in
-    let u = c .before .before .before .before .used-places .ensures .1 in
+    let at-used-places = c .before .before .before .before in
+    let s = at-used-places .before .before in
+    let u = at-used-places .used-places .ensures .1 in
     (omega (arith, c .larger .ensures), omega (arith, c .larger .ensures, u, s .pre))
 
 set-used-requires : tie.Need-set-used-requires Inv-loop μ-loop
@@ -50,10 +51,11 @@ set-used-requires c κs = omega arith
 
 returns : tie.Need-returns Inv-loop μ-loop
 returns c =
-    let k = c .before .before .before .before .before .before in
+    let at-loop-test = c .before .before .before .before .before in
+    let k = at-loop-test .before in
     let u = k .before .used-places in
     let n = k .before .before .before .args .t2 .len in
-    let e : k .loop .i ≡ n = omega (arith, c .before .before .before .before .before .loop-test .left) in
+    let e : k .loop .i ≡ n = omega (arith, at-loop-test .loop-test .left) in
     let h = rw e at (k .loop .inv .1) in
     let b = c .before .before .blank-from .ensures in
     let x = c .set-used .ensures in

@@ -1,7 +1,7 @@
 -- Each field is the number read at its place.
 use borrow.Author.Needs.{needs}
-use Rattle.format.proofs.records.head_of.Statement.{statement}
-use Rattle.format.proofs.records.head_of.Tie as tie
+use Rattle.format.proofs.records.begin_fields.Statement.{statement}
+use Rattle.format.proofs.records.begin_fields.Tie as tie
 
 u32-at-requires : tie.Need-u32-at-requires
 u32-at-requires c κs = search needs
@@ -30,8 +30,8 @@ byte-requires-6 c κs = search needs
 returns : tie.Need-returns
 returns c = cc
 
-pub head-of-spec : {M : Type 1} → statement M
-head-of-spec =
+pub begin-fields-spec : {M : Type 1} → statement M
+begin-fields-spec =
     tie.close
     (tie.spec
     u32-at-requires

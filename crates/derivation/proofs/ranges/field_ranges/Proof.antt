@@ -1,8 +1,8 @@
--- `derivation::ranges::head_ranges`: the tests are those of `headRanges`, in its order.
-use Rattle.derivation.specs.Heads.{headRanges}
+-- `derivation::ranges::field_ranges`: the tests are those of `fieldRanges`, in its order.
+use Rattle.derivation.specs.FieldRanges.{fieldRanges}
 use borrow.Author.Needs.{needs}
-use Rattle.derivation.proofs.ranges.head_ranges.Statement.{statement}
-use Rattle.derivation.proofs.ranges.head_ranges.Tie as tie
+use Rattle.derivation.proofs.ranges.field_ranges.Statement.{statement}
+use Rattle.derivation.proofs.ranges.field_ranges.Tie as tie
 
 is-irap-requires : tie.Need-is-irap-requires
 is-irap-requires c κs = search needs
@@ -20,13 +20,13 @@ modulus-requires : tie.Need-modulus-requires
 modulus-requires c κs = search needs
 
 returns : tie.Need-returns
-unfolding headRanges
+unfolding fieldRanges
 returns c =
     let b = c .before in
     rw (b .before .is-taken .ensures, b .before .before .before .is-irap .ensures, b .spare2 .ensures, c .modulus .ensures, b .before .before .is-idr .ensures)
 
-pub head-ranges-spec : {M : Type 1} → statement M
-head-ranges-spec =
+pub field-ranges-spec : {M : Type 1} → statement M
+field-ranges-spec =
     tie.close
     (tie.spec
     is-irap-requires

@@ -1,12 +1,12 @@
--- `slice_head`: each field is the byte, or the bit of the byte, that the record says it by.
+-- `slice_fields`: each field is the byte, or the bit of the byte, that the record says it by.
 use Prim.Native.Nat.{ℕ}
 use mathlib.Core.Path.{ap, _∙_}
 use lib.Dec.{eqb, ltb}
 use Rattle.paper.specs.Numbers.{bit}
 use Rattle.paper.specs.Records.{sliceOf}
 use borrow.Author.Needs.{needs}
-use Rattle.format.proofs.records.slice_head.Statement.{statement}
-use Rattle.format.proofs.records.slice_head.Tie as tie
+use Rattle.format.proofs.records.slice_fields.Statement.{statement}
+use Rattle.format.proofs.records.slice_fields.Tie as tie
 
 byte-requires : tie.Need-byte-requires
 byte-requires c κs = search needs
@@ -44,8 +44,8 @@ returns c =
       ask1 = record { uses = ap (λ (n : ℕ). eqb n 0) t; active = y .byte4 .ensures; modify = c .before .bit1 .ensures ∙ ap (bit 1) f };
     }
 
-pub slice-head-spec : {M : Type 1} → statement M
-slice-head-spec =
+pub slice-fields-spec : {M : Type 1} → statement M
+slice-fields-spec =
     tie.close
     (tie.spec
     byte-requires

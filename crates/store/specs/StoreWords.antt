@@ -16,7 +16,7 @@ use Rattle.paper.specs.declared.Picture.{Picture}
 use Rattle.store.specs.Walks.{blank}
 
 abbrev pub word : List ℕ → ℕ → ℕ
-word t i = getD t i 0
+word store i = getD store i 0
 
 abbrev pub flagOf : ℕ → Bool
 flagOf x = not (eqb x 0)
@@ -34,49 +34,49 @@ markWord LongTerm = 2
 
 -- the picture at place i
 unfoldable pub pictureAt : List ℕ → ℕ → Picture
-pictureAt t i =
+pictureAt store i =
     record {
-      serial = aSerial (word t (6 * i));
-      surface = aSurface (word t (6 * i + 1));
-      poc = toZ w32 (word t (6 * i + 2));
-      mark = markOf (word t (6 * i + 3));
-      waiting = flagOf (word t (6 * i + 4));
-      count = word t (6 * i + 5);
+      serial = aSerial (word store (6 * i));
+      surface = aSurface (word store (6 * i + 1));
+      poc = toZ w32 (word store (6 * i + 2));
+      mark = markOf (word store (6 * i + 3));
+      waiting = flagOf (word store (6 * i + 4));
+      count = word store (6 * i + 5);
     }
 
 -- those at the first n places
 abbrev pub pictures : List ℕ → ℕ → List Picture
-pictures t n = table (pictureAt t) n
+pictures store n = table (pictureAt store) n
 
 abbrev pub countIn : List ℕ → ℕ
-countIn t = min (word t 96) 16
+countIn store = min (word store 96) 16
 
 -- the stored pictures, in the order they came
 abbrev pub stored : List ℕ → List Picture
-stored t = pictures t (countIn t)
+stored store = pictures store (countIn store)
 
 -- ---- the normal form: blank behind the length
 
 -- the six words at place i, and those that a picture is written as
 abbrev pub wordsAt : List ℕ → ℕ → List ℕ
-wordsAt t i = word t (6 * i) ∷ word t (6 * i + 1) ∷ word t (6 * i + 2) ∷ word t (6 * i + 3) ∷ word t (6 * i + 4) ∷ word t (6 * i + 5) ∷ []
+wordsAt store i = word store (6 * i) ∷ word store (6 * i + 1) ∷ word store (6 * i + 2) ∷ word store (6 * i + 3) ∷ word store (6 * i + 4) ∷ word store (6 * i + 5) ∷ []
 
 abbrev pub pictureWords : Picture → List ℕ
 pictureWords p = p .serial .0 ∷ p .surface .0 ∷ ofZ w32 (p .poc) ∷ markWord (p .mark) ∷ flagWord (p .waiting) ∷ p .count ∷ []
 
 -- place i is written as its picture is
 abbrev pub Neat : List ℕ → ℕ → Type 0
-Neat t i = wordsAt t i ≡ pictureWords (pictureAt t i)
+Neat store i = wordsAt store i ≡ pictureWords (pictureAt store i)
 
 -- every place is, and behind the first n there is none
-pub record Tidy (t : List ℕ) (n : ℕ) : Type 0 where
-  pub neat : (i : ℕ) → i < 16 → Neat t i
-  pub behind : (i : ℕ) → n ≤ i → i < 16 → pictureAt t i ≡ blank
+pub record Tidy (store : List ℕ) (n : ℕ) : Type 0 where
+  pub neat : (i : ℕ) → i < 16 → Neat store i
+  pub behind : (i : ℕ) → n ≤ i → i < 16 → pictureAt store i ≡ blank
 
 -- a store in normal form
-pub record NormalForm (t : List ℕ) : Type 0 where
-  pub few : word t 96 ≤ 16
-  pub tidy : Tidy t (word t 96)
+pub record NormalForm (store : List ℕ) : Type 0 where
+  pub few : word store 96 ≤ 16
+  pub tidy : Tidy store (word store 96)
 
 -- ---- changes where pictures stand
 

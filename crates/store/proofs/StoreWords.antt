@@ -20,7 +20,7 @@ use Rattle.paper.specs.declared.Mark.{Mark}
 use Rattle.paper.specs.declared.Mark.the-variants.{Unmarked, ShortTerm, LongTerm}
 use Rattle.paper.specs.declared.Picture.{Picture}
 pub use Rattle.derivation.proofs.Runs.{table-same}
-use Rattle.store.specs.Shelf.{word, flagOf, flagWord, markOf, markWord, pictureAt, pictures, stored, countIn, Neat, Puts}
+use Rattle.store.specs.StoreWords.{word, flagOf, flagWord, markOf, markWord, pictureAt, pictures, stored, countIn, Neat, Puts}
 
 pub flag-back : (b : Bool) → flagOf (flagWord b) ≡ b
 flag-back true = refl

@@ -1,4 +1,4 @@
--- The place of each word beside the store and the run of the sets, under the name that heads.rt has for it.
+-- The place of each word of `front`, beside the sets and the store, under the name that words.rt has for it.
 use Prim.Native.Nat.{ℕ}
 
 -- whether configure was accepted, whether the next begin is first in the bitstream, whether it is first after end of sequence, and its serial
