@@ -1,17 +1,15 @@
 -- The parts of a reply as the code writes them.
 use Prim.Native.Nat.{ℕ, _+_, _≤_}
 use mathlib.Core.List.{List, [], _∷_, _++_}
-use mathlib.Core.Bool.{Bool, cond}
-use lib.ListN.{getD, take}
+use lib.ListN.{getD}
 use Rattle.paper.specs.declared.Serial.{Serial}
 use Rattle.paper.specs.Words.{table}
-use Rattle.paper.specs.Numbers.{bytes32, signed32, serialNos, surfaceNos}
+use Rattle.paper.specs.Numbers.{bytes32, signed32}
 use Rattle.paper.specs.Replies.{words}
 use Rattle.derivation.specs.Pad.{used}
 use Rattle.derivation.specs.declared.ref_lists.RefList.{RefList}
 use Rattle.derivation.specs.Lists.{HoldsList, blankSerial}
 use Rattle.store.specs.declared.Sizes.{Sizes}
-use Rattle.store.specs.declared.Moved.{Moved}
 use Rattle.session.specs.declared.replies.Told.{Told}
 
 -- the members of all five sets are sixteen at most
@@ -37,13 +35,6 @@ memberBytes x first second =
 
 abbrev pub begunPart : Told → Sizes → List Serial → List Serial → List ℕ
 begunPart t x first second = toldBytes t ++ sizesBytes x ++ memberBytes x first second
-
--- of a tail's part: "u8 count and serials thrown away", or else "u8 count and surfaces released"
-abbrev pub partCount : Moved → Bool → ℕ
-partCount m thrown = cond thrown (m .dropped) (m .freed)
-
-abbrev pub partNumbers : Moved → Bool → List ℕ
-partNumbers m thrown = cond thrown (serialNos (take (m .dropped) (m .thrown))) (surfaceNos (take (m .freed) (m .released)))
 
 -- the serials of a list
 abbrev pub listIn : RefList → List Serial

@@ -16,14 +16,14 @@ ghost use Prim.Native.Nat.{_+_, _*_, _≤_};
 ghost use lib.ListN.{length, take};
 ghost use lib.Seq.{sets};
 ghost use Rattle.paper.specs.Words.{flat};
-ghost use Rattle.paper.specs.Numbers.{bytes16};
+ghost use Rattle.paper.specs.Numbers.{bytes16, serialNos, surfaceNos};
 ghost use Rattle.paper.specs.Kinds.{beginKind, replyTo, restPlace, wordWidth, shownWidth, begunCounts};
 ghost use Rattle.paper.specs.Replies.{shownBytes, words, tailBytes, framed, bytesOf};
 ghost use Rattle.paper.specs.Replies.Reply.{Listed};
 ghost use Rattle.paper.specs.Output.{quiet};
 ghost use Rattle.store.specs.Tails.{tailIn, GoodTail};
 ghost use Rattle.session.specs.Written.{numbersFrom, toldBytes, sizesBytes, memberBytes, begunPart, listIn};
-ghost use Rattle.session.specs.Written.{FewMembers, Listable, partCount, partNumbers};
+ghost use Rattle.session.specs.Written.{FewMembers, Listable};
 ghost use Rattle.session.specs.Numbered.{numberOf};
 ghost use Rattle.session.specs.Said.{Roomy, Says, Refuses};
 
@@ -77,24 +77,36 @@ fn put_handed(d: &mut [u8], at: usize, m: Moved) -> usize
     a + kinds::SHOWN * n
 }
 
-// "u8 count and serials thrown away", or else "u8 count and surfaces released".
-fn put_part(d: &mut [u8], at: usize, m: Moved, thrown: bool) -> usize
-    requires { ⌜ GoodTail m × (at + 1 + wordWidth * partCount m thrown ≤ length (now d)) ⌝ }
-    ensures { λ r. ⌜ (r ≡ at + (1 + wordWidth * partCount m thrown))
-        × (now (d .exit) ≡ sets (now (d .entry)) at (partCount m thrown ∷ words (partNumbers m thrown))) ⌝ }
+// "u8 count and serials thrown away".
+fn put_thrown(d: &mut [u8], at: usize, m: Moved) -> usize
+    requires { ⌜ GoodTail m × (at + 1 + wordWidth * m .dropped ≤ length (now d)) ⌝ }
+    ensures { λ r. ⌜ (r ≡ at + (1 + wordWidth * m .dropped))
+        × (now (d .exit) ≡ sets (now (d .entry)) at
+        (m .dropped ∷ words (serialNos (take (m .dropped) (m .thrown))))) ⌝ }
 {
-    let n = if thrown { m.dropped } else { m.freed };
+    let n = m.dropped;
     let a = wire::put_u8(d, at, n as u8);
     let mut i = 0;
     while i < n {
-        let x = if thrown {
-            let y = m.thrown[i];
-            y.0
-        } else {
-            let y = m.released[i];
-            y.0
-        };
-        wire::put_u32(d, a + kinds::WORD * i, x);
+        let x = m.thrown[i];
+        wire::put_u32(d, a + kinds::WORD * i, x.0);
+        i += 1;
+    }
+    a + kinds::WORD * n
+}
+
+// "u8 count and surfaces released".
+fn put_released(d: &mut [u8], at: usize, m: Moved) -> usize
+    requires { ⌜ GoodTail m × (at + 1 + wordWidth * m .freed ≤ length (now d)) ⌝ }
+    ensures { λ r. ⌜ (r ≡ at + (1 + wordWidth * m .freed))
+        × (now (d .exit) ≡ sets (now (d .entry)) at (m .freed ∷ words (surfaceNos (take (m .freed) (m .released))))) ⌝ }
+{
+    let n = m.freed;
+    let a = wire::put_u8(d, at, n as u8);
+    let mut i = 0;
+    while i < n {
+        let x = m.released[i];
+        wire::put_u32(d, a + kinds::WORD * i, x.0);
         i += 1;
     }
     a + kinds::WORD * n
@@ -122,8 +134,8 @@ fn put_tail(d: &mut [u8], at: usize, m: Moved) -> usize
         × (now (d .exit) ≡ sets (now (d .entry)) at (tailBytes (tailIn m))) ⌝ }
 {
     let a = put_handed(d, at, m);
-    let b = put_part(d, a, m, true);
-    put_part(d, b, m, false)
+    let b = put_thrown(d, a, m);
+    put_released(d, b, m)
 }
 
 // The reply of kind `kind` to an accepted record: the refusal number 0 and a tail.

@@ -20,19 +20,19 @@ use Rattle.session.proofs.replies.put_tail.Tie as tie
 put-handed-requires : tie.Need-put-handed-requires
 put-handed-requires c κs = search needs
 
-put-part-requires : tie.Need-put-part-requires
-put-part-requires c κs = search needs
+put-thrown-requires : tie.Need-put-thrown-requires
+put-thrown-requires c κs = search needs
 
-put-part-requires-2 : tie.Need-put-part-requires-2
-put-part-requires-2 c κs = search needs
+put-released-requires : tie.Need-put-released-requires
+put-released-requires c κs = search needs
 
 same-length : tie.Need-same-length
 same-length c = search needs
 
 returns : tie.Need-returns
 returns c =
-    let at-put-part2 = c .before .before in
-    let t = at-put-part2 .before .before .before .before in
+    let at-put-released = c .before .before in
+    let t = at-put-released .before .before .before .before in
     let h = t .before .before .before .before in
     let s = h .before .before .before in
     let m = s .args .m in
@@ -40,8 +40,8 @@ returns c =
     let D = now (s .args .d) in
     let at = s .args .at in
     let w1 = h .put-handed in
-    let w2 = t .put-part in
-    let w3 = at-put-part2 .put-part2 in
+    let w2 = t .put-thrown in
+    let w3 = at-put-released .put-released in
     let X = m .shown ∷ flat shownBytes (take (m .shown) (m .handed)) in
     let Y = m .dropped ∷ words (serialNos (take (m .dropped) (m .thrown))) in
     let Z = m .freed ∷ words (surfaceNos (take (m .freed) (m .released))) in
@@ -56,4 +56,4 @@ returns c =
 pub put-tail-spec : {M : Type 1} → statement M
 put-tail-spec =
     tie.close
-    (tie.spec put-handed-requires put-part-requires put-part-requires-2 same-length returns)
+    (tie.spec put-handed-requires put-thrown-requires put-released-requires same-length returns)
