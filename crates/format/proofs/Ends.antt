@@ -7,8 +7,10 @@ use native.Mathlib.Omega.{arith}
 use native.Mathlib.Nat.{le-refl, mul-le-mul}
 use borrow.Author.Tests.{ne-eqb, lt-ltb}
 use Rattle.paper.specs.Numbers.{u8, u16}
-use Rattle.paper.specs.Kinds.{beginKind, listsKind, replyTo, numberPlace, restPlace, wordWidth, shownWidth, membersPlace, listsPlace}
+use Rattle.paper.specs.Kinds.{beginKind, listsKind, replyTo, numberPlace, restPlace, wordWidth, membersPlace, listsPlace}
 use Rattle.paper.specs.Records.{kindOf}
+use Rattle.paper.specs.declared.Reading.{Reading}
+use Rattle.paper.specs.Reading.{shownWidthIn}
 use Rattle.paper.specs.WholeReply.{pastItems, tailEnd, membersOf, tailPlace, replyEnd}
 use Rattle.format.specs.Counts.{pastCount}
 
@@ -29,15 +31,15 @@ module _ (a : List ℕ) where
   pub tail-other : (kindOf a ≡ replyTo beginKind → ⊥) → tailPlace a ≡ restPlace
   tail-other n = simp (ne-eqb (kindOf a) (replyTo beginKind) n)
 
-  pub end-refused : (u16 a numberPlace ≡ 0 → ⊥) → replyEnd a ≡ restPlace
+  pub end-refused : (st : Reading) → (u16 a numberPlace ≡ 0 → ⊥) → replyEnd st a ≡ restPlace
   unfolding replyEnd
-  end-refused n = simp (ne-eqb (u16 a numberPlace) 0 n)
+  end-refused st n = simp (ne-eqb (u16 a numberPlace) 0 n)
 
-module _ (a : List ℕ) (z : u16 a numberPlace ≡ 0) where
-  pub end-lists : kindOf a ≡ replyTo listsKind → replyEnd a ≡ listsPlace + wordWidth * (u8 a restPlace + u8 a (restPlace + 1))
+module _ (st : Reading) (a : List ℕ) (z : u16 a numberPlace ≡ 0) where
+  pub end-lists : kindOf a ≡ replyTo listsKind → replyEnd st a ≡ listsPlace + wordWidth * (u8 a restPlace + u8 a (restPlace + 1))
   unfolding replyEnd
   end-lists k = simp (z, k)
 
-  pub end-tail : (kindOf a ≡ replyTo listsKind → ⊥) → replyEnd a ≡ tailEnd shownWidth a (tailPlace a)
+  pub end-tail : (kindOf a ≡ replyTo listsKind → ⊥) → replyEnd st a ≡ tailEnd (shownWidthIn st) a (tailPlace a)
   unfolding replyEnd
   end-tail n = simp (z, ne-eqb (kindOf a) (replyTo listsKind) n)

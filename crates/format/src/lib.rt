@@ -1,9 +1,15 @@
-// Records and replies in a stream of bytes: where the first ends, and whether a reply is whole.
+// Records and replies in a stream of bytes: where the first ends, whether a reply is whole, and what its reader carries
+// on.
+mod carried;
 pub mod kinds;
 pub mod records;
 mod replies;
 
+pub use carried::further;
+pub use carried::opening;
+pub use carried::shown_width;
 pub use replies::behind;
+pub use replies::behind_shown;
 pub use replies::is_whole;
 pub use replies::members;
 pub use replies::tail_place;

@@ -1,10 +1,13 @@
 // Whether the bytes of a reply are whole: the length that its kind and its counts call for.
+use crate::carried::shown_width;
 use crate::kinds;
+use paper::Reading;
 ghost use mathlib.Core.Path.{_≡_};
 ghost use mathlib.Core.Bool.{cond};
 ghost use Prim.Native.Nat.{_+_, _*_, _≤_};
 ghost use lib.Dec.{ltb};
 ghost use Rattle.paper.specs.WholeReply.{tailEnd, tailPlace, membersOf, replyEnd, replyKind, wholeReply};
+ghost use Rattle.paper.specs.Reading.{shownWidthIn};
 ghost use Rattle.format.specs.Counts.{pastCount};
 
 // The place behind a count at a place and n bytes more; a place behind every reply stays.
@@ -22,12 +25,20 @@ pub fn behind(reply: &[u8], at: usize, width: u8) -> usize
     past(at, width as usize * wire::byte(reply, at) as usize)
 }
 
-// The end of the tail at a place, which names each picture handed out in that many bytes.
-fn tail_end(reply: &[u8], at: usize, width: u8) -> usize
-    requires { ⌜ (at ≤ 5120) × (width ≤ 32) ⌝ }
-    ensures { λ r. ⌜ r ≡ tailEnd width (now (reply .entry)) at ⌝ }
+// The place behind a count at a place and as many pictures handed out.
+pub fn behind_shown(st: Reading, reply: &[u8], at: usize) -> usize
+    ensures { λ r. ⌜ (r ≡ pastCount (shownWidthIn st) (now (reply .entry)) at)
+        × (r ≤ at + 1 + 255 * shownWidthIn st) ⌝ }
 {
-    let second = behind(reply, at, width);
+    behind(reply, at, shown_width(st))
+}
+
+// The end of the tail at a place.
+fn tail_end(st: Reading, reply: &[u8], at: usize) -> usize
+    requires { ⌜ at ≤ 5120 ⌝ }
+    ensures { λ r. ⌜ r ≡ tailEnd (shownWidthIn st) (now (reply .entry)) at ⌝ }
+{
+    let second = behind_shown(st, reply, at);
     let third = behind(reply, second, kinds::WORD_WIDTH);
     behind(reply, third, kinds::WORD_WIDTH)
 }
@@ -55,8 +66,8 @@ pub fn tail_place(reply: &[u8]) -> usize
 }
 
 // The length that the kind and the counts call for.
-fn reply_end(reply: &[u8]) -> usize
-    ensures { λ r. ⌜ r ≡ replyEnd (now (reply .entry)) ⌝ }
+fn reply_end(st: Reading, reply: &[u8]) -> usize
+    ensures { λ r. ⌜ r ≡ replyEnd st (now (reply .entry)) ⌝ }
 {
     if wire::u16_at(reply, kinds::NUMBER_PLACE) != 0 {
         return kinds::REST_PLACE;
@@ -66,7 +77,7 @@ fn reply_end(reply: &[u8]) -> usize
         let m = wire::byte(reply, kinds::LENGTH1_PLACE) as usize;
         return kinds::LISTS_PLACE + kinds::WORD * (n + m);
     }
-    tail_end(reply, tail_place(reply), kinds::SHOWN_WIDTH)
+    tail_end(st, reply, tail_place(reply))
 }
 
 // Whether the reply has a kind: that of one of the records, or that of number 13 with a refusal number.
@@ -78,12 +89,12 @@ fn kind_known(reply: &[u8]) -> bool
     ((kinds::CONFIGURED <= k) & (k <= kinds::ABANDONED)) | ((k == kinds::MALFORMED) & !(n == 0))
 }
 
-// Whether the bytes are a whole reply.
-pub fn is_whole(reply: &[u8]) -> bool
-    ensures { λ r. ⌜ r ≡ wholeReply (now (reply .entry)) ⌝ }
+// Whether the bytes are a whole reply, behind those that left this reading.
+pub fn is_whole(st: Reading, reply: &[u8]) -> bool
+    ensures { λ r. ⌜ r ≡ wholeReply st (now (reply .entry)) ⌝ }
 {
     let len = reply.len();
     (kinds::REST_PLACE <= len)
         & ((len == kinds::BODY_PLACE + wire::u16_at(reply, 0) as usize)
-            & (kind_known(reply) & (len == reply_end(reply))))
+            & (kind_known(reply) & (len == reply_end(st, reply))))
 }

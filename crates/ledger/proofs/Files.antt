@@ -10,6 +10,8 @@ use lib.Seq.{take-all}
 use borrow.Author.Tests.{eqb-true, eqb-false, eq-eqb, le-ltb, ltb-false}
 use Rattle.paper.specs.Words.{allB, first}
 use Rattle.paper.specs.Numbers.{u16}
+use Rattle.paper.specs.declared.Reading.{Reading}
+use Rattle.paper.specs.Reading.{opening, further}
 use Rattle.paper.specs.State.{fresh}
 use Rattle.paper.specs.Step.{replies}
 use Rattle.paper.specs.WholeReply.{wholeReply, replyKind, replyEnd}
@@ -19,6 +21,7 @@ use Rattle.paper.specs.Watch.{partOf, watched, pairs}
 use Rattle.paper.proofs.Bools.{split, both, left, right}
 use Rattle.paper.proofs.Ways.{first-none, yes-of}
 use Rattle.paper.proofs.Between.{in-order-kept}
+use Rattle.paper.proofs.Again.{pairs-again}
 use Rattle.paper.proofs.Watching.{watched-sound}
 use Rattle.paper.proofs.Unbroken.{watched-session}
 use Rattle.paper.proofs.LedgerTold.{sound-fresh}
@@ -29,8 +32,8 @@ use Rattle.watch.proofs.ExchangeLaws.{watched-even}
 use Rattle.ledger.specs.Verdict.{exchanged, lastPart, judgedOf, judged}
 
 -- as many records as replies: as far as both go is all of them
-all-exchanged : (rs answers : List (List ℕ)) → length rs ≡ length answers → exchanged rs answers ≡ watched 0 blank rs answers
-all-exchanged rs answers e = ap₂ (watched 0 blank) (take-all (length answers) rs (omega arith)) (take-all (length rs) answers (omega arith))
+all-exchanged : (rs answers : List (List ℕ)) → length rs ≡ length answers → exchanged rs answers ≡ watched opening 0 blank rs answers
+all-exchanged rs answers e = ap₂ (watched opening 0 blank) (take-all (length answers) rs (omega arith)) (take-all (length rs) answers (omega arith))
 
 last-none : (n m rest : ℕ) → lastPart n m rest ≡ 0 → (n ≡ m) × (rest ≡ 0)
 last-none n m rest z =
@@ -44,7 +47,7 @@ last-none n m rest z =
 
 -- what the answer 0 says of whole records, whole replies and the bytes behind these
 record Even (rs answers : List (List ℕ)) (rest : ℕ) : Type 0 where
-  none : watched 0 blank rs answers .part ≡ 0
+  none : watched opening 0 blank rs answers .part ≡ 0
   even : length rs ≡ length answers
   done : rest ≡ 0
 
@@ -59,7 +62,7 @@ even-of rs answers rest z =
 
 -- IF THE ANSWER IS 0: each whole record has its reply, no byte of the replies is left over, and they keep demand 3
 pub record KeptFiles (records replies : List ℕ) : Type 0 where
-  pub kept : Kept (pairs (cut records) (cut replies))
+  pub kept : Kept (pairs opening (cut records) (cut replies))
   pub even : length (cut records) ≡ length (cut replies)
   pub done : restOf replies ≡ []
 
@@ -67,38 +70,38 @@ pub kept-files : (records replies : List ℕ) → judged records replies .part �
 kept-files records replies z =
     let k = even-of (cut records) (cut replies) (length (restOf replies)) z in
     record {
-      kept = in-order-kept (pairs (cut records) (cut replies)) (watched-sound 0 blank (cut records) (cut replies) refl (k .none) .ok);
+      kept = in-order-kept (pairs opening (cut records) (cut replies)) (pairs-again opening (cut records) (cut replies)) (watched-sound opening 0 blank (cut records) (cut replies) refl (k .none) .ok);
       even = k .even;
       done = length-none (restOf replies) (k .done);
     }
 
 -- ---- a session's own replies
 
-whole-head : (a : List ℕ) → wholeReply a ≡ true → isWhole a ≡ true
+whole-head : (st : Reading) (a : List ℕ) → wholeReply st a ≡ true → isWhole a ≡ true
 unfolding wholeReply
-whole-head a w =
-    let k = replyKind a && eqb (length a) (replyEnd a) in
+whole-head st a w =
+    let k = replyKind a && eqb (length a) (replyEnd st a) in
     left (eqb (length a) (4 + u16 a 0)) k (right (leb 6 (length a)) (eqb (length a) (4 + u16 a 0) && k) w)
 
 -- replies that break nothing are whole
-whole-replies : (n : ℕ) (L : Ledger) (rs answers : List (List ℕ)) → watched n L rs answers .part ≡ 0 → allB isWhole answers ≡ true
+whole-replies : (st : Reading) (n : ℕ) (L : Ledger) (rs answers : List (List ℕ)) → watched st n L rs answers .part ≡ 0 → allB isWhole answers ≡ true
 unfolding watched allB partOf
-whole-replies n L [] [] z = refl
-whole-replies n L (r ∷ rs) [] z = absurd (omega arith)
-whole-replies n L [] (a ∷ answers) z = absurd (omega arith)
-whole-replies n L (r ∷ rs) (a ∷ answers) z =
-    split (eqb (partOf L r a) 0)
+whole-replies st n L [] [] z = refl
+whole-replies st n L (r ∷ rs) [] z = absurd (omega arith)
+whole-replies st n L [] (a ∷ answers) z = absurd (omega arith)
+whole-replies st n L (r ∷ rs) (a ∷ answers) z =
+    split (eqb (partOf st L r a) 0)
     (λ e.
-    both (whole-head a (yes-of (wholeReply a) (first-none (not (wholeReply a)) 1 _ (λ q. omega arith) (eqb-true (partOf L r a) 0 e) .0)))
-    (whole-replies (n + 1) (hear L r (readReply a)) rs answers (rw e at z)))
-    (λ e. absurd (eqb-false (partOf L r a) 0 e (rw e at z)))
+    both (whole-head st a (yes-of (wholeReply st a) (first-none (not (wholeReply st a)) 1 _ (λ q. omega arith) (eqb-true (partOf st L r a) 0 e) .0)))
+    (whole-replies (further st a) (n + 1) (hear L r (readReply st a)) rs answers (rw e at z)))
+    (λ e. absurd (eqb-false (partOf st L r a) 0 e (rw e at z)))
 
 -- records and whole replies that break nothing, the replies one after the other in a file
-unbroken-file : (records : List ℕ) (answers : List (List ℕ)) → watched 0 blank (cut records) answers .part ≡ 0 → judged records (joined answers) .part ≡ 0
+unbroken-file : (records : List ℕ) (answers : List (List ℕ)) → watched opening 0 blank (cut records) answers .part ≡ 0 → judged records (joined answers) .part ≡ 0
 unfolding judgedOf first
 unbroken-file records answers z =
-    let e = watched-even 0 blank (cut records) answers z .0 in
-    let w = whole-replies 0 blank (cut records) answers z in
+    let e = watched-even opening 0 blank (cut records) answers z .0 in
+    let w = whole-replies opening 0 blank (cut records) answers z in
     let p : judged records (joined answers) ≡ judgedOf (cut records) answers 0 =
     ap (λ (q : Parts). judgedOf (cut records) (q .whole) (length (q .rest))) (one-cut answers [] (append-nil (joined answers)) w refl) in
     let v : exchanged (cut records) answers .part ≡ 0 = ap (λ v. v .part) (all-exchanged (cut records) answers e) ∙ z in
@@ -113,4 +116,4 @@ cut-bytes records b =
 
 -- ON THE REPLIES OF A SESSION TO ANY FILE OF RECORDS THE ANSWER IS 0. `replay-replies` (crates/replay) says that these are the replies of `replay`
 pub session-files : (records : List ℕ) → allB (λ (b : ℕ). ltb b 256) records ≡ true → judged records (joined (replies fresh (cut records))) .part ≡ 0
-session-files records b = unbroken-file records (replies fresh (cut records)) (watched-session 0 fresh (cut records) sound-fresh (omega arith) (cut-bytes records b))
+session-files records b = unbroken-file records (replies fresh (cut records)) (watched-session opening 0 fresh (cut records) sound-fresh (omega arith) (cut-bytes records b))

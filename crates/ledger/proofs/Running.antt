@@ -7,6 +7,7 @@ use lib.Dec.{ltb}
 use lib.IntN.{ℤ}
 use lib.ListN.{take}
 use Rattle.paper.specs.Words.{allB}
+use Rattle.paper.specs.Reading.{furtherAll}
 use Rattle.paper.specs.State.{fresh}
 use Rattle.paper.specs.Step.{replies}
 use Rattle.paper.specs.Watch.{watched}
@@ -23,7 +24,7 @@ use Rattle.ledger.proofs.Files.{KeptFiles, kept-files, session-files}
 -- ---- so far
 
 nothing-read : {x y : ℤ} {s : Stand} → Starts x y s → Judging (s .state) (s .records) (s .replies) [] []
-unfolding joined allB watched tallyAll
+unfolding joined allB watched tallyAll furtherAll
 nothing-read {s = s} b =
     record {
       said = [];

@@ -8,10 +8,12 @@ use lib.Dec.{ltb, eqb}
 use lib.ListN.{length, take, drop, length-append, length-drop}
 use lib.Seq.{take-all, take-append-add, length-take-le, length-paste}
 use borrow.Author.Tests.{eqb-true, eqb-false, lt-ltb, le-ltb}
+use Rattle.paper.specs.Reading.{opening, furtherAll}
 use Rattle.paper.specs.Ledger.{blank}
 use Rattle.paper.specs.Watch.{Verdict, watched}
 use Rattle.paper.proofs.Bools.{split, not-both}
 use Rattle.paper.proofs.Bools as Bools
+use Rattle.paper.proofs.Again.{further-append}
 use Rattle.format.specs.Cut.{sizeOf, joined, isWhole, cut, restOf}
 use Rattle.format.proofs.Fitting.{within}
 use Rattle.format.proofs.Cutting.{joined-on, all-append, none-whole, some-cut, front-whole}
@@ -22,6 +24,7 @@ use Rattle.watch.specs.Book.{bookIn, HoldsBook, noTally, most}
 use Rattle.watch.specs.Pairs.{tallyAll, Watches, WatchesAll}
 use Rattle.watch.proofs.Far.{length-none}
 use Rattle.watch.proofs.ExchangeLaws.{watched-even, tally-append}
+use Rattle.watch.proofs.Determined.{also}
 use Rattle.watch.proofs.Blocks.{next-block, next-place, next-book}
 use Rattle.ledger.specs.declared.Feed.{Feed}
 use Rattle.ledger.specs.declared.State.{State}
@@ -62,7 +65,7 @@ module _ {p : Paired} (s : State) (records replies : List ℕ) (h : s .records .
       let v = take (s .replies .held) replies in
       let a : heard .said ≡ [] = none-whole (heard .said) w (heard .whole-said) (heard .cut-said) z in
       let b : heard .answers ≡ [] = length-none (heard .answers) (sym (heard .even) ∙ ap length a) in
-      let c : p .part ≡ 0 = heard .part ∙ ap₂ (λ (x y : List (List ℕ)). watched 0 (bookIn (s .book)) x y .part) a b in
+      let c : p .part ≡ 0 = heard .part ∙ ap₂ (λ (x y : List (List ℕ)). watched (s .book .reading) 0 (bookIn (s .book)) x y .part) a b in
       let d : length (take (p .answered) v) ≡ 0 = ap length (heard .cut-answers ∙ ap joined b) in
       let e = length-take-le (p .answered) v (g .answered) in
       let f : p .answered ≡ 0 = omega arith in
@@ -94,29 +97,29 @@ module _ {p : Paired} (s : State) (records replies : List ℕ) (h : s .records .
     allAnswers = j .answers ++ heard .answers
 
     abbrev both : Verdict
-    both = watched 0 blank allSaid allAnswers
+    both = watched opening 0 blank allSaid allAnswers
 
     part-both : p .part ≡ both .part
-    part-both = next-block blank (j .said) (j .answers) (j .unbroken) (j .book) heard
+    part-both = next-block opening blank (j .said) (j .answers) (j .unbroken) (j .book) heard
 
     even-both : length allSaid ≡ length allAnswers
     even-both =
-        let e = watched-even 0 blank (j .said) (j .answers) (j .unbroken) .0 in
+        let e = watched-even opening 0 blank (j .said) (j .answers) (j .unbroken) .0 in
         omega (arith, length-append (j .said) (heard .said), length-append (j .answers) (heard .answers), heard .even)
 
     number-both : min (s .number + p .pairs) most ≡ min (both .at) most
-    number-both = let e = next-place blank (j .said) (j .answers) (j .unbroken) (j .book) heard in omega (arith, j .number)
+    number-both = let e = next-place opening blank (j .said) (j .answers) (j .unbroken) (j .book) heard in omega (arith, j .number)
 
-    book-both : HoldsBook (p .book) (both .ledger) (tallyAll noTally (take (both .at) allAnswers))
+    book-both : HoldsBook (p .book) (furtherAll opening (take (both .at) allAnswers)) (both .ledger) (tallyAll opening noTally (take (both .at) allAnswers))
     book-both =
-        let e = next-place blank (j .said) (j .answers) (j .unbroken) (j .book) heard in
-        let n = watched-even 0 blank (j .said) (j .answers) (j .unbroken) .1 in
+        let e = next-place opening blank (j .said) (j .answers) (j .unbroken) (j .book) heard in
+        let n = watched-even opening 0 blank (j .said) (j .answers) (j .unbroken) .1 in
         let m : length (j .answers) + p .pairs ≡ both .at = omega arith in
         let t = take (p .pairs) (heard .answers) in
-        let u : tallyAll (tallyAll noTally (j .answers)) t ≡ tallyAll noTally (take (both .at) allAnswers) =
-        sym (tally-append noTally (j .answers) t)
-        ∙ ap (tallyAll noTally) (sym (take-append-add (j .answers) (heard .answers) (p .pairs)) ∙ ap (λ (x : ℕ). take x allAnswers) m) in
-        subst (HoldsBook (p .book) (both .ledger)) u (next-book blank (j .said) (j .answers) (j .unbroken) (j .book) heard)
+        let q = sym (take-append-add (j .answers) (heard .answers) (p .pairs)) ∙ ap (λ (x : ℕ). take x allAnswers) m in
+        let u = sym (tally-append opening noTally (j .answers) t) ∙ ap (tallyAll opening noTally) q in
+        let w = sym (further-append opening (j .answers) t) ∙ ap (furtherAll opening) q in
+        also w refl u (next-book opening blank (j .said) (j .answers) (j .unbroken) (j .book) heard)
 
     module _ {records′ replies′ : List ℕ} (a : records′ ≡ shifted records (p .taken) (s .records .held))
         (b : replies′ ≡ shifted replies (p .answered) (s .replies .held)) where
@@ -129,7 +132,7 @@ module _ {p : Paired} (s : State) (records replies : List ℕ) (h : s .records .
       goes : p .part ≡ 0 → Judging nextState records′ replies′ (R ++ brought (s .records) (nextState .records) records′) (A ++ brought (s .replies) (nextState .replies) replies′)
       goes z =
           let u : both .part ≡ 0 = sym part-both ∙ z in
-          let n = watched-even 0 blank allSaid allAnswers u .1 in
+          let n = watched-even opening 0 blank allSaid allAnswers u .1 in
           record {
             said = allSaid;
             answers = allAnswers;
@@ -139,7 +142,7 @@ module _ {p : Paired} (s : State) (records replies : List ℕ) (h : s .records .
             cut-answers = answers-both;
             unbroken = u;
             number = number-both;
-            book = subst (λ (l : List (List ℕ)). HoldsBook (p .book) (both .ledger) (tallyAll noTally l)) (take-all (both .at) allAnswers (omega arith)) book-both;
+            book = subst (λ (l : List (List ℕ)). HoldsBook (p .book) (furtherAll opening l) (both .ledger) (tallyAll opening noTally l)) (take-all (both .at) allAnswers (omega arith)) book-both;
           }
 
       breaks : (p .part ≡ 0 → ⊥) → (more others : List ℕ)

@@ -9,6 +9,7 @@ use lib.ListN.{length, take}
 use lib.Seq.{length-take-le}
 use borrow.Author.Tests.{eqb-true, lt-ltb, le-ltb, ltb-true, ltb-false}
 use Rattle.paper.specs.Words.{first}
+use Rattle.paper.specs.Reading.{opening}
 use Rattle.paper.specs.Ledger.{blank}
 use Rattle.paper.proofs.Bools.{not-both}
 use Rattle.format.specs.Cut.{Parts, sizeOf, joined, parts, cut, restOf}
@@ -141,7 +142,7 @@ module _ (s : State) (records replies : List ℕ) (h : s .records .held ≤ leng
 
   says-last : {R A : List ℕ} (part : ℕ) (more others : List ℕ) → Judging s records replies R A → LastPart part more others → Says (stateOf s (s .records) (s .replies) part false) (judged (R ++ more) (A ++ others))
   says-last {R} {A} part more others j l =
-      let e = watched-even 0 blank (j .said) (j .answers) (j .unbroken) .0 in
+      let e = watched-even opening 0 blank (j .said) (j .answers) (j .unbroken) .0 in
       let x = saidOn more in
       let y = answersOn others in
       let p : R ++ more ≡ joined (j .said) ++ x = ap (λ (q : List ℕ). q ++ more) (j .cut-said) ∙ append-assoc (joined (j .said)) (take (s .records .held) records) more in

@@ -10,12 +10,12 @@ use lib.ListN.{length, take, drop, length-append, length-take, take-append-drop}
 use lib.Seq.{take-at, take-append-le}
 use borrow.Author.Tests.{eq-eqb, ne-eqb, lt-ltb, le-ltb, ltb-true, ltb-false}
 use Rattle.paper.specs.Words.{allB, first}
+use Rattle.paper.specs.Reading.{opening, furtherAll}
 use Rattle.paper.specs.Ledger.{blank}
 use Rattle.paper.specs.Watch.{Verdict, watched}
 use Rattle.paper.proofs.Bools.{split}
 use Rattle.format.specs.Cut.{Parts, joined, isWhole, cut, restOf}
 use Rattle.format.proofs.Cutting.{front-cut, cut-on}
-use Rattle.watch.specs.declared.Tally.{Tally}
 use Rattle.watch.specs.Book.{noTally}
 use Rattle.watch.specs.Pairs.{tallyAll}
 use Rattle.watch.proofs.ExchangeLaws.{watched-even}
@@ -31,19 +31,19 @@ ltb-shift n x y =
 
 -- ---- behind whole exchanges
 
-abbrev answerOf : Verdict → ℕ → Tally → Answer
-answerOf v part tally = record { at = v .at; part = part; ledger = v .ledger; tally = tally }
+abbrev answerOf : Verdict → ℕ → List (List ℕ) → Answer
+answerOf v part answers = record { at = v .at; part = part; ledger = v .ledger; tally = tallyAll opening noTally answers; reading = furtherAll opening answers }
 
 module _ (said answers : List (List ℕ)) (e : length said ≡ length answers) (qs bs : List (List ℕ)) where
   abbrev heard : Verdict
-  heard = watched 0 blank said answers
+  heard = watched opening 0 blank said answers
 
   -- a broken part stands, whatever comes behind it
-  pub broken-stands : (rest : ℕ) → (heard .part ≡ 0 → ⊥) → judgedOf (said ++ qs) (answers ++ bs) rest ≡ answerOf heard (heard .part) (tallyAll noTally (take (heard .at) answers))
+  pub broken-stands : (rest : ℕ) → (heard .part ≡ 0 → ⊥) → judgedOf (said ++ qs) (answers ++ bs) rest ≡ answerOf heard (heard .part) (take (heard .at) answers)
   unfolding judgedOf
   broken-stands rest w =
-      let v = far-broken blank said answers e qs bs w in
-      let k = watched-within 0 blank said answers in
+      let v = far-broken opening blank said answers e qs bs w in
+      let k = watched-within opening 0 blank said answers in
       rw (v, ne-eqb (heard .part) 0 w, take-append-le (heard .at) answers bs (omega arith))
 
   last-shift : (rest : ℕ) → lastPart (length (said ++ qs)) (length (answers ++ bs)) rest ≡ lastPart (length qs) (length bs) rest
@@ -54,11 +54,11 @@ module _ (said answers : List (List ℕ)) (e : length said ≡ length answers) (
 
   -- where nothing is broken and one file has no more, what is left decides
   pub rest-decides : (rest : ℕ) → heard .part ≡ 0 → min (length qs) (length bs) ≡ 0
-      → judgedOf (said ++ qs) (answers ++ bs) rest ≡ answerOf heard (lastPart (length qs) (length bs) rest) (tallyAll noTally answers)
+      → judgedOf (said ++ qs) (answers ++ bs) rest ≡ answerOf heard (lastPart (length qs) (length bs) rest) answers
   unfolding judgedOf
   rest-decides rest z m =
-      let v = far-last blank said answers e qs bs m in
-      let k = watched-even 0 blank said answers z .1 in
+      let v = far-last opening blank said answers e qs bs m in
+      let k = watched-even opening 0 blank said answers z .1 in
       rw (v, eq-eqb (heard .part) 0 z, last-shift rest, take-at answers bs (heard .at) (omega arith))
 
 -- ---- two files that begin with whole exchanges

@@ -7,6 +7,7 @@ use lib.ListN.{length, take}
 use lib.Dec.{ltb, eqb}
 use lib.IntN.{ℤ, pos, negsuc}
 use Rattle.paper.specs.Words.{allB}
+use Rattle.paper.specs.Reading.{opening, furtherAll}
 use Rattle.paper.specs.Ledger.{blank}
 use Rattle.paper.specs.Watch.{watched}
 use Rattle.format.specs.Cut.{sizeOf, joined, isWhole}
@@ -60,7 +61,7 @@ Went s Replies records replies r records′ replies′ =
 Went s (Stop part) records replies r records′ replies′ = (records′ ≡ records) × (replies′ ≡ replies) × (r ≡ stateOf s (s .records) (s .replies) part false)
 
 -- All that was read so far, R of the records and A of the replies, is whole records and as many whole replies that break nothing, and what still waits. The
--- book is their ledger, with their tally, in normal form; the number is theirs, as far as 64 bits count
+-- book is their ledger, with their tally, read on behind them, in normal form; the number is theirs, as far as 64 bits count
 pub record Judging (s : State) (records replies R A : List ℕ) : Type 0 where
   pub said : List (List ℕ)
   pub answers : List (List ℕ)
@@ -68,15 +69,15 @@ pub record Judging (s : State) (records replies R A : List ℕ) : Type 0 where
   pub whole-answers : allB isWhole answers ≡ true
   pub cut-said : R ≡ joined said ++ take (s .records .held) records
   pub cut-answers : A ≡ joined answers ++ take (s .replies .held) replies
-  pub unbroken : watched 0 blank said answers .part ≡ 0
-  pub number : s .number ≡ min (watched 0 blank said answers .at) most
-  pub book : HoldsBook (s .book) (watched 0 blank said answers .ledger) (tallyAll noTally answers)
+  pub unbroken : watched opening 0 blank said answers .part ≡ 0
+  pub number : s .number ≡ min (watched opening 0 blank said answers .at) most
+  pub book : HoldsBook (s .book) (furtherAll opening answers) (watched opening 0 blank said answers .ledger) (tallyAll opening noTally answers)
 
 -- the state has this answer
 pub record Says (s : State) (x : Answer) : Type 0 where
   pub part : s .part ≡ x .part
   pub number : s .number ≡ min (x .at) most
-  pub book : HoldsBook (s .book) (x .ledger) (x .tally)
+  pub book : HoldsBook (s .book) (x .reading) (x .ledger) (x .tally)
 
 -- THE ANSWER IS THAT OF THE TWO FILES: they begin with R and A, and a file that has ended is no longer than that
 abbrev pub Settled : State → List ℕ → List ℕ → Type 0
@@ -136,7 +137,7 @@ unread fd = record { fd = fd; held = 0; ended = false; failed = false }
 
 -- a run starts with a new book and the two files
 pub record Starts (records-fd replies-fd : ℤ) (s : Stand) : Type 0 where
-  pub book : HoldsBook (s .state .book) blank noTally
+  pub book : HoldsBook (s .state .book) opening blank noTally
   pub number : s .state .number ≡ 0
   pub records : s .state .records ≡ unread records-fd
   pub replies : s .state .replies ≡ unread replies-fd

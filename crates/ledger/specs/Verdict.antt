@@ -5,6 +5,8 @@ use mathlib.Core.Bool.{cond}
 use lib.ListN.{length, take}
 use lib.Dec.{ltb, eqb}
 use Rattle.paper.specs.Words.{_gives_, first}
+use Rattle.paper.specs.declared.Reading.{Reading}
+use Rattle.paper.specs.Reading.{opening, furtherAll}
 use Rattle.paper.specs.Ledger.{Ledger, blank}
 use Rattle.paper.specs.Watch.{Verdict, watched}
 use Rattle.format.specs.Cut.{cut, restOf}
@@ -12,16 +14,17 @@ use Rattle.watch.specs.declared.Tally.{Tally}
 use Rattle.watch.specs.Book.{noTally}
 use Rattle.watch.specs.Pairs.{tallyAll}
 
--- how many exchanges break nothing, the part that the next one breaks or 0, and the ledger and the tally up to there
+-- how many exchanges break nothing, the part that the next one breaks or 0, and the ledger and the tally up to there, with what their reader carries on
 pub record Answer : Type 0 where
   pub at : ℕ
   pub part : ℕ
   pub ledger : Ledger
   pub tally : Tally
+  pub reading : Reading
 
 -- each whole record with its whole reply, as far as both go
 abbrev pub exchanged : List (List ℕ) → List (List ℕ) → Verdict
-exchanged said answers = watched 0 blank (take (length answers) said) (take (length said) answers)
+exchanged said answers = watched opening 0 blank (take (length answers) said) (take (length said) answers)
 
 -- where none of them breaks a part. 18: a reply without its record; 1: a rest of the replies that is no whole reply; 17: a record without its reply.
 -- A rest of the records that is no whole record has no reply
@@ -35,7 +38,8 @@ judgedOf said answers rest =
       at = exchanged said answers .at;
       part = cond (eqb (exchanged said answers .part) 0) (lastPart (length said) (length answers) rest) (exchanged said answers .part);
       ledger = exchanged said answers .ledger;
-      tally = tallyAll noTally (take (exchanged said answers .at) answers);
+      tally = tallyAll opening noTally (take (exchanged said answers .at) answers);
+      reading = furtherAll opening (take (exchanged said answers .at) answers);
     }
 
 -- A FILE OF RECORDS AND A FILE OF REPLIES

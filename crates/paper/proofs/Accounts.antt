@@ -13,7 +13,7 @@ use Rattle.paper.specs.Numbers.{u32, serialNos, surfaceNos}
 use Rattle.paper.specs.Kinds.{endKind, abandonKind, surfacePlace}
 use Rattle.paper.specs.Output.{Tail}
 use Rattle.paper.specs.Replies.{Begun, Reply}
-use Rattle.paper.specs.Ledger.{linesOf, Ledger, Event, Exchange, blank, lies, mayAll, uponAll, events, none, landed, abandoned, unchanged, lineOf, tell, heard, hear, told, readReply}
+use Rattle.paper.specs.Ledger.{linesOf, Ledger, Event, Exchange, blank, lies, mayAll, uponAll, events, none, landed, abandoned, unchanged, lineOf, tell, heard, hear, told, replyIn}
 use Rattle.paper.specs.Accounts.{count, serials, surfaces, wanting, begunIn, tailIn, begunAll, handedAll, thrownAll, releasedAll, Accounts}
 use Rattle.paper.proofs.Bools.{left, right, split, by-case}
 use Rattle.paper.proofs.Flow.{Sep, sep-first, sep-last, sep-once, hit, count-append, tail-wants, tail-surfaces, wants-append, surfaces-append}
@@ -132,9 +132,9 @@ from-none : (L : Ledger) → Tidy L → From L []
 unfolding told begunAll handedAll thrownAll releasedAll count wanting keep
 from-none L i = record { wants = λ n. omega arith; held = λ y. omega arith; once = λ n. (omega arith, λ h. omega arith); tidy = i }
 
-module _ (L : Ledger) (x : Exchange) (xs : List Exchange) (i : Tidy L) (o : hear L (x .said) (readReply (x .answered)) .ok ≡ true) where
+module _ (L : Ledger) (x : Exchange) (xs : List Exchange) (i : Tidy L) (o : hear L (x .said) (replyIn x) .ok ≡ true) where
   abbrev answer : Reply
-  answer = readReply (x .answered)
+  answer = replyIn x
 
   abbrev r : List ℕ
   r = x .said
@@ -184,8 +184,8 @@ pub from-all : (L : Ledger) (xs : List Exchange) → Tidy L → told L xs .ok �
 unfolding told
 from-all L [] i o = from-none L i
 from-all L (x ∷ xs) i o =
-    let h = ok-told (hear L (x .said) (readReply (x .answered))) xs o in
-    from-more L x xs i h (from-all (hear L (x .said) (readReply (x .answered))) xs (tidy-hear L (x .said) (readReply (x .answered)) i h) o)
+    let h = ok-told (hear L (x .said) (replyIn x)) xs o in
+    from-more L x xs i h (from-all (hear L (x .said) (replyIn x)) xs (tidy-hear L (x .said) (replyIn x) i h) o)
 
 -- The accounts of the exchanges, with the ledger that they tell
 pub accounts : (xs : List Exchange) → told blank xs .ok ≡ true → Accounts xs (told blank xs)

@@ -9,7 +9,7 @@ use Rattle.paper.specs.declared.Line.{Line}
 use Rattle.paper.specs.Words.{keep}
 use Rattle.paper.specs.Kinds.{endKind, abandonKind}
 use Rattle.paper.specs.Replies.{Reply}
-use Rattle.paper.specs.Ledger.{linesOf, Ledger, Exchange, off, uponAll, events, landed, abandoned, unchanged, lineOf, tell, hear, told, readReply}
+use Rattle.paper.specs.Ledger.{linesOf, Ledger, Exchange, off, uponAll, events, landed, abandoned, unchanged, lineOf, tell, hear, told, replyIn}
 use Rattle.paper.specs.Accounts.{count, serials, wanting, begunIn, begunAll}
 use Rattle.paper.proofs.Bools.{split, not-both, by-case}
 use Rattle.paper.proofs.Every.{All, all-first, all-last, all-append}
@@ -34,8 +34,8 @@ module _ (P : Line → Type 0) (stays : (n : ℕ) (e : Line) → P e → P (off 
   unfolding told begunAll
   lines-told L [] a b = a
   lines-told L (x ∷ xs) a b =
-      let k = begunIn (x .said) (readReply (x .answered)) in
-      lines-told (hear L (x .said) (readReply (x .answered))) xs (lines-tell L (x .said) (readReply (x .answered)) a (all-first P k (begunAll xs) b)) (all-last P k (begunAll xs) b)
+      let k = begunIn (x .said) (replyIn x) in
+      lines-told (hear L (x .said) (replyIn x)) xs (lines-tell L (x .said) (replyIn x) a (all-first P k (begunAll xs) b)) (all-last P k (begunAll xs) b)
 
 -- the current line is as it was begun
 module _ (P : Line → Type 0) where
@@ -52,8 +52,8 @@ module _ (P : Line → Type 0) where
   unfolding told begunAll
   current-told L [] a b = a
   current-told L (x ∷ xs) a b =
-      let k = begunIn (x .said) (readReply (x .answered)) in
-      current-told (hear L (x .said) (readReply (x .answered))) xs (current-tell L (x .said) (readReply (x .answered)) a (all-first P k (begunAll xs) b)) (all-last P k (begunAll xs) b)
+      let k = begunIn (x .said) (replyIn x) in
+      current-told (hear L (x .said) (replyIn x)) xs (current-tell L (x .said) (replyIn x) a (all-first P k (begunAll xs) b)) (all-last P k (begunAll xs) b)
 
 -- Lines of a serial that all want to be shown
 abbrev pub Wants : ℕ → Line → Type 0

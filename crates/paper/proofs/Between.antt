@@ -16,9 +16,9 @@ use Rattle.paper.specs.Kinds.{beginKind, discardKind, endKind, abandonKi
 use Rattle.paper.specs.Records.{kindOf}
 use Rattle.paper.specs.Output.{Tail}
 use Rattle.paper.specs.Replies.{Begun, Reply}
-use Rattle.paper.specs.Ledger.{linesOf, Ledger, Hand, Throw, Free, Exchange, blank, lies, none, names, clearing, mayAll, uponAll, events, lineOf, landed, abandoned, unchanged, tell, heard, hear, told, readReply}
+use Rattle.paper.specs.Ledger.{linesOf, Ledger, Hand, Throw, Free, Exchange, blank, lies, none, names, clearing, mayAll, uponAll, events, lineOf, landed, abandoned, unchanged, tell, heard, hear, told, replyIn}
 use Rattle.paper.specs.Accounts.{count, serials, surfaces, wanting, begunIn, tailIn, begunAll, handedAll, thrownAll, releasedAll}
-use Rattle.paper.specs.Statement.{Begins, onSurface, throwsAway, Kept}
+use Rattle.paper.specs.Statement.{FromBytes, Begins, onSurface, throwsAway, Kept}
 use Rattle.paper.proofs.Bools as B
 use Rattle.paper.proofs.Bools.{both, left, right, split, not-both, or-right}
 use Rattle.paper.proofs.Every.{All, all-more, all-true}
@@ -83,10 +83,10 @@ threw L r (Reply.Started b t) d o h = both (eq-eqb (kindOf r) beginKind (sym (eq
 threw L r (Reply.Listed l0 l1) d o h = not-both (none {A = Serial} []) none-nothing h
 
 -- exchanges in two parts
-told-append : (L : Ledger) (bs : List Exchange) (x : Exchange) (ls : List Exchange) → told L (bs ++ (x ∷ ls)) ≡ told (hear (told L bs) (x .said) (readReply (x .answered))) ls
+told-append : (L : Ledger) (bs : List Exchange) (x : Exchange) (ls : List Exchange) → told L (bs ++ (x ∷ ls)) ≡ told (hear (told L bs) (x .said) (replyIn x)) ls
 unfolding told
 told-append L [] x ls = refl
-told-append L (b ∷ bs) x ls = told-append (hear L (b .said) (readReply (b .answered))) bs x ls
+told-append L (b ∷ bs) x ls = told-append (hear L (b .said) (replyIn b)) bs x ls
 
 module _ (bs ls : List Exchange) (x : Exchange) (o : told blank (bs ++ (x ∷ ls)) .ok ≡ true) where
   abbrev y : ℕ
@@ -96,7 +96,7 @@ module _ (bs ls : List Exchange) (x : Exchange) (o : told blank (bs ++ (x ∷ ls
   before = told blank bs
 
   abbrev after : Ledger
-  after = hear before (x .said) (readReply (x .answered))
+  after = hear before (x .said) (replyIn x)
 
   rest-ok : told after ls .ok ≡ true
   rest-ok = ap (λ (L : Ledger). L .ok) (sym (told-append blank bs x ls)) ∙ o
@@ -105,15 +105,15 @@ module _ (bs ls : List Exchange) (x : Exchange) (o : told blank (bs ++ (x ∷ ls
   after-ok = ok-told after ls rest-ok
 
   before-tidy : Tidy before
-  before-tidy = from-all blank bs tidy-blank (ok-hear before (x .said) (readReply (x .answered)) after-ok) .tidy
+  before-tidy = from-all blank bs tidy-blank (ok-hear before (x .said) (replyIn x) after-ok) .tidy
 
   after-tidy : Tidy after
-  after-tidy = tidy-hear before (x .said) (readReply (x .answered)) before-tidy after-ok
+  after-tidy = tidy-hear before (x .said) (replyIn x) before-tidy after-ok
 
-  tells-ok : (a : Reply) → readReply (x .answered) ≡ a → tell before (x .said) a .ok ≡ true
-  tells-ok a e = ap (λ (z : Reply). tell before (x .said) z .ok) (sym e) ∙ right (heard (x .said) (readReply (x .answered))) _ after-ok
+  tells-ok : (a : Reply) → replyIn x ≡ a → tell before (x .said) a .ok ≡ true
+  tells-ok a e = ap (λ (z : Reply). tell before (x .said) z .ok) (sym e) ∙ right (heard (x .said) (replyIn x)) _ after-ok
 
-  free-at : (b : Begun) (t : Tail) → readReply (x .answered) ≡ Reply.Started b t → count y (surfaces (linesOf before)) ≡ 0
+  free-at : (b : Begun) (t : Tail) → replyIn x ≡ Reply.Started b t → count y (surfaces (linesOf before)) ≡ 0
   unfolding tell
   free-at b t p =
       let o1 = right (before .ok) _ (tells-ok (Reply.Started b t) p) in
@@ -122,7 +122,7 @@ module _ (bs ls : List Exchange) (x : Exchange) (o : told blank (bs ++ (x ∷ ls
       let f : anyB (lies y) (before .held) ≡ false = no-of (anyB (lies y) (before .held)) (left (not (anyB (lies y) (before .held))) _ o3) in
       ap (λ (H : List Line). count y (surfaces (before .held ++ H))) e ∙ ap (λ (H : List Line). count y (surfaces H)) (append-nil (before .held)) ∙ free-count y (before .held) f
 
-  held-after : (b : Begun) (t : Tail) → readReply (x .answered) ≡ Reply.Started b t → 1 ≤ count y (surfaces (linesOf after))
+  held-after : (b : Begun) (t : Tail) → replyIn x ≡ Reply.Started b t → 1 ≤ count y (surfaces (linesOf after))
   unfolding tell count
   held-after b t p =
       let a = Flow.surfaces-append y (uponAll (events t) (before .held)) (lineOf (x .said) b ∷ []) in
@@ -130,7 +130,7 @@ module _ (bs ls : List Exchange) (x : Exchange) (o : told blank (bs ++ (x ∷ ls
       let c : _≡_ {A = ℕ} (cond (eqb y y) 1 0) 1 = rw e in
       subst (λ (z : Reply). 1 ≤ count y (surfaces (linesOf (tell before (x .said) z)))) (sym p) (omega (arith, a, c))
 
-  once-at : (b : Begun) (t : Tail) → readReply (x .answered) ≡ Reply.Started b t → count y (surfaces (begunAll ls)) ≡ 0
+  once-at : (b : Begun) (t : Tail) → replyIn x ≡ Reply.Started b t → count y (surfaces (begunAll ls)) ≡ 0
       → count y (surfaces (linesOf (told blank (bs ++ (x ∷ ls))))) + count y (releasedAll ls) ≡ 1
   once-at b t p z =
       let a = from-all after ls after-tidy rest-ok .held y in
@@ -138,7 +138,7 @@ module _ (bs ls : List Exchange) (x : Exchange) (o : told blank (bs ++ (x ∷ ls
       let k = ap (λ (L : Ledger). count y (surfaces (linesOf L))) (told-append blank bs x ls) in
       omega (arith, a, c, k, held-after b t p, z)
 
-  lists-at : (l0 l1 : List Serial) → readReply (x .answered) ≡ Reply.Listed l0 l1 → names (l0 ++ l1) (linesOf before) ≡ true
+  lists-at : (l0 l1 : List Serial) → replyIn x ≡ Reply.Listed l0 l1 → names (l0 ++ l1) (linesOf before) ≡ true
   unfolding tell
   lists-at l0 l1 p = right (not (none (before .current))) _ (right (before .ok) _ (tells-ok (Reply.Listed l0 l1) p))
 
@@ -149,8 +149,8 @@ module _ (bs ls : List Exchange) (x : Exchange) (o : told blank (bs ++ (x ∷ ls
   held-from-at b t p z =
       let f : All (λ (e : Line). lies y e ≡ false) (linesOf before) = count-free y (linesOf before) (free-at b t p) in
       let a : All Own (linesOf before) = all-more (λ (e : Line). lies y e ≡ false) Own own-other (linesOf before) f in
-      let w : All Own (begunIn (x .said) (readReply (x .answered))) = subst (λ (a : Reply). All Own (begunIn (x .said) a)) (sym p) (or-right (not (lies y (lineOf (x .said) b))) _ (eq-eqb (b .serial .0) (b .serial .0) refl), tt) in
-      let k : All Own (linesOf after) = lines-tell Own (λ n e h. h) before (x .said) (readReply (x .answered)) a w in
+      let w : All Own (begunIn (x .said) (replyIn x)) = subst (λ (a : Reply). All Own (begunIn (x .said) a)) (sym p) (or-right (not (lies y (lineOf (x .said) b))) _ (eq-eqb (b .serial .0) (b .serial .0) refl), tt) in
+      let k : All Own (linesOf after) = lines-tell Own (λ n e h. h) before (x .said) (replyIn x) a w in
       let g : All Own (begunAll ls) = all-more (λ (e : Line). lies y e ≡ false) Own own-other (begunAll ls) (count-free y (begunAll ls) z) in
       subst (λ (L : Ledger). allB own (linesOf L) ≡ true) (sym (told-append blank bs x ls)) (all-true own (linesOf (told after ls)) (lines-told Own (λ n e h. h) after ls k g))
     where
@@ -164,8 +164,8 @@ module _ (bs ls : List Exchange) (x : Exchange) (o : told blank (bs ++ (x ∷ ls
       own-other e h = rw h
 
   -- thrown away by a named call
-  named-at : none (tailIn (readReply (x .answered)) .thrown) ≡ false → throwsAway (x .said) (readReply (x .answered)) ≡ true
-  named-at h = threw before (x .said) (readReply (x .answered)) (left (heard (x .said) (readReply (x .answered))) _ after-ok) (right (heard (x .said) (readReply (x .answered))) _ after-ok) h
+  named-at : none (tailIn (replyIn x) .thrown) ≡ false → throwsAway (x .said) (replyIn x) ≡ true
+  named-at h = threw before (x .said) (replyIn x) (left (heard (x .said) (replyIn x)) _ after-ok) (right (heard (x .said) (replyIn x)) _ after-ok) h
 
   clears-at : (b : Begun) (t : Tail) → Begins x b t → none (t .thrown) ≡ false → (t .handed ≡ []) × (uponAll (events t) (before .held) ≡ [])
   clears-at b t p h =
@@ -185,8 +185,8 @@ module _ (bs ls : List Exchange) (x : Exchange) (o : told blank (bs ++ (x ∷ ls
   begun-once : (bs : List Exchange) → 1 ≤ count n (serials (wanting (begunAll (bs ++ (x ∷ ls)))))
   unfolding begunAll begunIn
   begun-once [] =
-      let a = Flow.wants-append n (begunIn (x .said) (readReply (x .answered))) (begunAll ls) in
-      let c : count n (serials (wanting (begunIn (x .said) (readReply (x .answered))))) ≡ 1 = ap (λ (z : Reply). count n (serials (wanting (begunIn (x .said) z)))) p ∙ own-line in
+      let a = Flow.wants-append n (begunIn (x .said) (replyIn x)) (begunAll ls) in
+      let c : count n (serials (wanting (begunIn (x .said) (replyIn x)))) ≡ 1 = ap (λ (z : Reply). count n (serials (wanting (begunIn (x .said) z)))) p ∙ own-line in
       omega (arith, a, c)
     where
       own-line : count n (serials (wanting (lineOf (x .said) b ∷ []))) ≡ 1
@@ -194,7 +194,7 @@ module _ (bs ls : List Exchange) (x : Exchange) (o : told blank (bs ++ (x ∷ ls
           let a = Flow.wants-cons n (lineOf (x .said) b) [] in
           let h : cond (b .output) (Flow.hit n n) 0 ≡ 1 = rw (w, eq-eqb n n refl) in
           omega (arith, a, h, none-want n)
-  begun-once (y ∷ bs) = omega (arith, begun-once bs, Flow.wants-append n (begunIn (y .said) (readReply (y .answered))) (begunAll (bs ++ (x ∷ ls))))
+  begun-once (y ∷ bs) = omega (arith, begun-once bs, Flow.wants-append n (begunIn (y .said) (replyIn y)) (begunAll (bs ++ (x ∷ ls))))
 
   exactly-one-at : count n (serials (told blank all .current)) + count n (serials (wanting (told blank all .held))) + count n (handedAll all) + count n (thrownAll all) ≡ 1
   exactly-one-at =
@@ -212,7 +212,7 @@ module _ (bs ms ls : List Exchange) (x y : Exchange) (o : told blank (bs ++ (x �
   whole-ok = ap (λ (zs : List Exchange). told blank zs .ok) joins ∙ o
 
   part-ok : told blank (bs ++ (x ∷ ms)) .ok ≡ true
-  part-ok = ok-hear (told blank (bs ++ (x ∷ ms))) (y .said) (readReply (y .answered)) (after-ok (bs ++ (x ∷ ms)) ls y whole-ok)
+  part-ok = ok-hear (told blank (bs ++ (x ∷ ms))) (y .said) (replyIn y) (after-ok (bs ++ (x ∷ ms)) ls y whole-ok)
 
   between-at : (b c : Begun) (t u : Tail) → Begins x b t → Begins y c u → onSurface y ≡ onSurface x → count (onSurface x) (surfaces (begunAll ms)) ≡ 0
       → count (onSurface x) (releasedAll ms) ≡ 1
@@ -222,9 +222,10 @@ module _ (bs ms ls : List Exchange) (x y : Exchange) (o : told blank (bs ++ (x �
       let g = ap (λ (n : ℕ). count n (surfaces (linesOf (told blank (bs ++ (x ∷ ms)))))) e in
       omega (arith, a, f, g)
 
-pub in-order-kept : (xs : List Exchange) → told blank xs .ok ≡ true → Kept xs
-in-order-kept xs o =
+pub in-order-kept : (xs : List Exchange) → FromBytes xs → told blank xs .ok ≡ true → Kept xs
+in-order-kept xs f o =
     record {
+      from-bytes = f;
       in-order = o;
       sums = accounts xs o;
       exactly-one = λ bs ls x b t e p w.

@@ -9,10 +9,12 @@ use borrow.Author.Tests.{eqb-false}
 use Rattle.paper.specs.Words.{keep, allB, anyB, flat}
 use Rattle.paper.specs.Numbers.{bit, bytes32, aSerial}
 use Rattle.paper.specs.Kinds.{beginKind, listsKind, finishKind, drainKind, replyTo, restPlace, begunMembers}
+use Rattle.paper.specs.Reading.{opening, further}
 use Rattle.paper.specs.Output.{Tail}
 use Rattle.paper.specs.Replies.{Begun, framed}
 use Rattle.paper.specs.Ledger.{Exchange, setWords, readWords, readShown, readReleased, readTail, readSets, readBegun, readReply, may, free, upon, mayAll, uponAll, none, names, tell, heard, told, blank}
 use Rattle.paper.specs.Accounts.{Accounts, count, wanting, begunIn, tailIn, begunAll, handedAll, thrownAll, releasedAll}
+use Rattle.paper.specs.Watch.{pairs}
 use Rattle.paper.specs.Statement.{InOrder, ExactlyOne, Between, Once, HeldFrom, Free, throwsAway, NamedCall, Clears, Lists, Kept}
 use Rattle.paper.proofs.Bools.{not-both}
 use Rattle.paper.proofs.Every.{All, all-more}
@@ -31,7 +33,7 @@ quietly = tailOf [] [] []
 
 -- a record of this kind without a body, and its reply with this tail
 abbrev call : ℕ → List ℕ → Exchange
-call kind t = record { said = 0 ∷ 0 ∷ kind ∷ 0 ∷ []; answered = framed (replyTo kind) 0 t }
+call kind t = record { said = 0 ∷ 0 ∷ kind ∷ 0 ∷ []; answered = framed (replyTo kind) 0 t; reading = opening }
 
 -- an IDR picture begun on this surface, and the reply: its flags, serial, the serials of StCurrBefore and the tail
 abbrev beginning : ℕ → ℕ → ℕ → List ℕ → List ℕ → Exchange
@@ -39,18 +41,19 @@ beginning x flags n ns t =
     record {
       said = 12 ∷ 0 ∷ 2 ∷ 0 ∷ 19 ∷ 0 ∷ 1 ∷ 0 ∷ 0 ∷ x ∷ 0 ∷ 0 ∷ 0 ∷ 0 ∷ 0 ∷ 0 ∷ [];
       answered = framed (replyTo beginKind) 0 (bytes32 0 ++ (flags ∷ []) ++ bytes32 n ++ (length ns ∷ 0 ∷ 0 ∷ 0 ∷ 0 ∷ []) ++ flat bytes32 ns ++ t);
+      reading = opening;
     }
 
 -- a lists record, and the reply: list 0 of these serials
 abbrev listing : List ℕ → Exchange
-listing ns = record { said = 4 ∷ 0 ∷ 3 ∷ 0 ∷ 1 ∷ 0 ∷ length ns ∷ 0 ∷ []; answered = framed (replyTo listsKind) 0 (length ns ∷ 0 ∷ flat bytes32 ns) }
+listing ns = record { said = 4 ∷ 0 ∷ 3 ∷ 0 ∷ 1 ∷ 0 ∷ length ns ∷ 0 ∷ []; answered = framed (replyTo listsKind) 0 (length ns ∷ 0 ∷ flat bytes32 ns); reading = opening }
 
 -- what the reply to a begin says of the picture, and its tail
 abbrev pictureIn : Exchange → Begun
 pictureIn x = readBegun (drop restPlace (x .answered))
 
 abbrev tailAt : Exchange → Tail
-tailAt x = readTail (drop (4 * setWords (drop restPlace (x .answered))) (drop begunMembers (drop restPlace (x .answered))))
+tailAt x = readTail (x .reading) (drop (4 * setWords (drop restPlace (x .answered))) (drop begunMembers (drop restPlace (x .answered))))
 
 -- Picture 0 is begun on surface 7 with output flag 1: flags 7, and 15 with "no output of prior pictures"
 abbrev first0 : Exchange
@@ -67,8 +70,8 @@ abbrev pub sample : List Exchange
 sample = first0 ∷ finish [] [] [] ∷ beginning 8 15 1 [] (tailOf [] (0 ∷ []) (7 ∷ [])) ∷ listing (1 ∷ []) ∷ finish (shown 1 8 ∷ []) [] [] ∷ drain [] [] (8 ∷ []) ∷ []
 
 pub sample-kept : Kept sample
-unfolding keep allB anyB flat bit bytes32 readWords readShown readReleased readTail readSets readBegun readReply may free upon mayAll uponAll none names tell heard told
-sample-kept = in-order-kept sample refl
+unfolding keep allB anyB flat bit bytes32 readWords readShown readReleased readTail readSets readBegun readReply may free upon mayAll uponAll none names tell heard told pairs further
+sample-kept = in-order-kept sample refl refl
 
 pub data Sentence : Type 0 where
   in-order : Sentence
@@ -150,10 +153,10 @@ shows1 = beginning 8 15 1 [] (tailOf (shown 0 7 ∷ []) (0 ∷ []) (7 ∷ []))
 
 -- one record with the reply to another, and a record without a body refused with this reply kind and number
 abbrev answering : Exchange → Exchange → Exchange
-answering x y = record { said = x .said; answered = y .answered }
+answering x y = record { said = x .said; answered = y .answered; reading = y .reading }
 
 abbrev refusing : ℕ → ℕ → ℕ → Exchange
-refusing kind reply n = record { said = 0 ∷ 0 ∷ kind ∷ 0 ∷ []; answered = framed reply n [] }
+refusing kind reply n = record { said = 0 ∷ 0 ∷ kind ∷ 0 ∷ []; answered = framed reply n []; reading = opening }
 
 abbrev pub broken : List Break
 broken =

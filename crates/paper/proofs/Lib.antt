@@ -21,6 +21,7 @@ pub mod Tidy
 pub mod Accounts
 pub mod Begins
 pub mod Between
+pub mod Again
 pub mod Broken
 pub mod Fits
 pub mod Normal

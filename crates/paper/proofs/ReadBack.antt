@@ -2,6 +2,7 @@
 use Rattle.paper.specs.declared.Serial.{Serial}
 use Rattle.paper.specs.declared.Surface.{Surface}
 use Rattle.paper.specs.declared.Shown.{Shown}
+use Rattle.paper.specs.declared.Reading.{Reading}
 use Rattle.paper.specs.Words.{flat}
 use Rattle.paper.specs.Numbers.{u8, u32, i32, bytes32, bit, flagAt, serialNos, surfaceNos, aSerial, aSurface}
 use Rattle.paper.specs.Kinds.{beginKind, listsKind, replyOffset, replyTo, shownWidth}
@@ -82,10 +83,10 @@ shown-back x rest f =
     let g : SFits w32 (x .poc) = record { sfits = ltb-true _ _ (f .poc) } in
     rw (four-back (x .serial .0) (f .serial), four-back (x .surface .0) (f .surface), four-back (ofZ w32 (x .poc)) (fits-ofZ g .fits), toZ-ofZ g)
 
-all-shown-back : (xs : List Shown) (rest : List ℕ) → All FitShown xs → readShown (length xs) (flat shownBytes xs ++ rest) ≡ xs
+all-shown-back : (st : Reading) (xs : List Shown) (rest : List ℕ) → All FitShown xs → readShown st (length xs) (flat shownBytes xs ++ rest) ≡ xs
 unfolding flat readShown bytes32
-all-shown-back [] rest a = refl
-all-shown-back (x ∷ xs) rest a = λ i. shown-back x (flat shownBytes xs ++ rest) (a .0) i ∷ all-shown-back xs rest (a .1) i
+all-shown-back st [] rest a = refl
+all-shown-back st (x ∷ xs) rest a = λ i. shown-back x (flat shownBytes xs ++ rest) (a .0) i ∷ all-shown-back st xs rest (a .1) i
 
 shown-past : (xs : List Shown) (rest : List ℕ) → drop (shownWidth * length xs) (flat shownBytes xs ++ rest) ≡ rest
 unfolding flat bytes32
@@ -132,10 +133,10 @@ module _ (t : Tail) where
   past-twice : drop (4 * u8 (drop (shownWidth * length (t .handed)) (flat shownBytes (t .handed) ++ T ++ R)) 0) (drop 1 (drop (shownWidth * length (t .handed)) (flat shownBytes (t .handed) ++ T ++ R))) ≡ R
   past-twice = rw past (serials-past (t .thrown) R)
 
-  pub tail-back : FitTail t → readTail (tailBytes t) ≡ t
+  pub tail-back : (st : Reading) → FitTail t → readTail st (tailBytes t) ≡ t
   unfolding readTail tailBytes
-  tail-back f =
-      tails (rw (append-assoc (flat shownBytes (t .handed)) T R) (all-shown-back (t .handed) (T ++ R) (f .handed)))
+  tail-back st f =
+      tails (rw (append-assoc (flat shownBytes (t .handed)) T R) (all-shown-back st (t .handed) (T ++ R) (f .handed)))
       (ap (λ (bs : List ℕ). map aSerial (readReleased bs)) past ∙ serials-back (t .thrown) R (f .thrown))
       (ap (λ (bs : List ℕ). map aSurface (readReleased bs)) (past-twice ∙ sym (append-nil R)) ∙ surfaces-back (t .released) [] (f .released))
 
@@ -246,17 +247,17 @@ Fit (Reply.Done kind t) = (kind < 256) × (kind ≡ beginKind → ⊥) × (kind 
 Fit (Reply.Started b t) = FitBegun b × FitTail t
 Fit (Reply.Listed l0 l1) = All SerialWord l0 × All SerialWord l1
 
-pub read-back : (x : Reply) → Fit x → readReply (bytesOf x) ≡ x
+pub read-back : (st : Reading) (x : Reply) → Fit x → readReply st (bytesOf x) ≡ x
 unfolding readReply bytesOf
-read-back (Reply.Refused kind n) f = rw (two-back kind (f .0), two-back n (f .1), ne-eqb n 0 (f .2))
-read-back (Reply.Done kind t) f =
+read-back st (Reply.Refused kind n) f = rw (two-back kind (f .0), two-back n (f .1), ne-eqb n 0 (f .2))
+read-back st (Reply.Done kind t) f =
     let e : replyTo kind < 65536 = omega (arith, f .0) in
     let a : eqb (replyTo kind) (replyTo beginKind) ≡ false = ne-eqb (replyTo kind) (replyTo beginKind) (λ z. f .1 (omega arith)) in
     let b : eqb (replyTo kind) (replyTo listsKind) ≡ false = ne-eqb (replyTo kind) (replyTo listsKind) (λ z. f .2 (omega arith)) in
     let c : replyTo kind - replyOffset ≡ kind = omega arith in
-    rw (two-back (replyTo kind) e, a, b, c, tail-back t (f .3))
-read-back (Reply.Started b t) f = λ i. Reply.Started (begun-back b (tailBytes t) (f .0) i) ((ap readTail (begun-past b (tailBytes t)) ∙ tail-back t (f .1)) i)
-read-back (Reply.Listed l0 l1) f =
+    rw (two-back (replyTo kind) e, a, b, c, tail-back t st (f .3))
+read-back st (Reply.Started b t) f = λ i. Reply.Started (begun-back b (tailBytes t) (f .0) i) ((ap (readTail st) (begun-past b (tailBytes t)) ∙ tail-back t st (f .1)) i)
+read-back st (Reply.Listed l0 l1) f =
     let e : named (l0 ++ l1) ≡ named l0 ++ named l1 = named-append l0 l1 in
     let a : readSerials (length l0) (named (l0 ++ l1)) ≡ l0 = rw e (named-back l0 (named l1) (f .0)) in
     let d : drop (4 * length l0) (named (l0 ++ l1)) ≡ named l1 = rw e (serials-past l0 (named l1)) in

@@ -11,9 +11,11 @@ use Rattle.paper.specs.Numbers.{u16, bytes16, replyLimit, serialNos}
 use Rattle.paper.specs.Kinds.{beginKind, listsKind, replyTo, malformedReply}
 use Rattle.paper.specs.Words.{allB}
 use Rattle.paper.specs.Records.{kindOf, wellFormed}
+use Rattle.paper.specs.declared.Reading.{Reading}
+use Rattle.paper.specs.Reading.{opening, furtherAll}
 use Rattle.paper.specs.State.{Session, fresh}
 use Rattle.paper.specs.Replies.{Reply, framed, words, tailBytes, begunBytes, bytesOf}
-use Rattle.paper.specs.Step.{Decided, Result, discardOf, byKind, decideOf, stepOf, sessionAfter}
+use Rattle.paper.specs.Step.{Decided, Result, discardOf, byKind, decideOf, stepOf, sessionAfter, replies}
 use Rattle.paper.specs.WholeReply.{wholeReply}
 use Rattle.paper.specs.Ledger.{readReply}
 use Rattle.paper.specs.Statement.{Bytes}
@@ -108,20 +110,22 @@ head-says rs r room h =
     rw (large-room s r room (le-ltb room 512 h)) (says-at s r (omega (arith, b .most, b .room)))
 
 -- the bytes of a session's reply are a whole reply
-whole-at : (s : Session) (r : List ℕ) → Sound s → length (s .store) ≤ 16 → allB (λ (b : ℕ). ltb b 256) r ≡ true → wholeReply (stepOf s r replyLimit .bytes) ≡ true
+whole-at : (st : Reading) (s : Session) (r : List ℕ) → Sound s → length (s .store) ≤ 16 → allB (λ (b : ℕ). ltb b 256) r ≡ true → wholeReply st (stepOf s r replyLimit .bytes) ≡ true
 unfolding stepOf
-whole-at s r i room b = whole-back (decideOf s r .reply) (good-step s r i b .fit) (knows s r) (fit-decide s r room .bytes)
+whole-at st s r i room b = whole-back st (decideOf s r .reply) (good-step s r i b .fit) (knows s r) (fit-decide s r room .bytes)
 
-pub whole-after : (rs : List (List ℕ)) (r : List ℕ) (room : ℕ) → Bytes rs → allB (λ (b : ℕ). ltb b 256) r ≡ true → 512 ≤ room → wholeReply (stepOf (sessionAfter fresh rs) r room .bytes) ≡ true
+pub whole-after : (rs : List (List ℕ)) (r : List ℕ) (room : ℕ) → Bytes rs → allB (λ (b : ℕ). ltb b 256) r ≡ true → 512 ≤ room
+    → wholeReply (furtherAll opening (replies fresh rs)) (stepOf (sessionAfter fresh rs) r room .bytes) ≡ true
 whole-after rs r room a b h =
     let s : Session = sessionAfter fresh rs in
     let i = bounded-after rs in
-    rw (large-room s r room (le-ltb room 512 h)) (whole-at s r (sound-after fresh rs sound-fresh a) (omega (arith, i .most, i .room)) b)
+    rw (large-room s r room (le-ltb room 512 h)) (whole-at _ s r (sound-after fresh rs sound-fresh a) (omega (arith, i .most, i .room)) b)
 
 -- reading back a written reply gives what was decided
-pub reads-back : (rs : List (List ℕ)) (r : List ℕ) → Bytes rs → allB (λ (b : ℕ). ltb b 256) r ≡ true → readReply (stepOf (sessionAfter fresh rs) r replyLimit .bytes) ≡ decideOf (sessionAfter fresh rs) r .reply
+pub reads-back : (rs : List (List ℕ)) (r : List ℕ) → Bytes rs → allB (λ (b : ℕ). ltb b 256) r ≡ true
+    → readReply (furtherAll opening (replies fresh rs)) (stepOf (sessionAfter fresh rs) r replyLimit .bytes) ≡ decideOf (sessionAfter fresh rs) r .reply
 unfolding stepOf
-reads-back rs r a b = read-back (decideOf (sessionAfter fresh rs) r .reply) (good-step (sessionAfter fresh rs) r (sound-after fresh rs sound-fresh a) b .fit)
+reads-back rs r a b = read-back (furtherAll opening (replies fresh rs)) (decideOf (sessionAfter fresh rs) r .reply) (good-step (sessionAfter fresh rs) r (sound-after fresh rs sound-fresh a) b .fit)
 
 -- a discard record is always accepted, from any session value
 discard-at : (s : Session) → stepOf s (0 ∷ 0 ∷ 6 ∷ 0 ∷ []) replyLimit .number ≡ 0

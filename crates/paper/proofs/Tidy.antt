@@ -12,7 +12,7 @@ use Rattle.paper.specs.Numbers.{u32}
 use Rattle.paper.specs.Kinds.{endKind, abandonKind, surfacePlace}
 use Rattle.paper.specs.Output.{Tail}
 use Rattle.paper.specs.Replies.{Begun, Reply}
-use Rattle.paper.specs.Ledger.{linesOf, Ledger, Event, Hand, Throw, Free, Exchange, blank, lies, off, free, upon, uponAll, events, none, landed, abandoned, lineOf, tell, heard, hear, told, readReply}
+use Rattle.paper.specs.Ledger.{linesOf, Ledger, Event, Hand, Throw, Free, Exchange, blank, lies, off, free, upon, uponAll, events, none, landed, abandoned, lineOf, tell, heard, hear, told, replyIn}
 use Rattle.paper.proofs.Bools.{left, right, not-both, by-case}
 use Rattle.paper.proofs.Every.{All, all-keep, all-map, all-more, all-first, all-append, all-both, none-any}
 use Rattle.paper.proofs.Apart.{flip}
@@ -123,4 +123,4 @@ ok-hear L r x o = ok-tell L r x (right (heard r x) _ o)
 pub ok-told : (L : Ledger) (xs : List Exchange) → told L xs .ok ≡ true → L .ok ≡ true
 unfolding told
 ok-told L [] o = o
-ok-told L (x ∷ xs) o = ok-hear L (x .said) (readReply (x .answered)) (ok-told (hear L (x .said) (readReply (x .answered))) xs o)
+ok-told L (x ∷ xs) o = ok-hear L (x .said) (replyIn x) (ok-told (hear L (x .said) (replyIn x)) xs o)

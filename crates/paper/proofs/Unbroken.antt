@@ -12,6 +12,8 @@ use Rattle.paper.specs.declared.Line.{Line}
 use Rattle.paper.specs.Words.{first, allB, anyB}
 use Rattle.paper.specs.Numbers.{u32}
 use Rattle.paper.specs.Kinds.{configureKind, finishKind, discardKind, endKind, abandonKind, replyTo, surfacePlace}
+use Rattle.paper.specs.declared.Reading.{Reading}
+use Rattle.paper.specs.Reading.{opening, further}
 use Rattle.paper.specs.State.{Session, fresh}
 use Rattle.paper.specs.Output.{Tail}
 use Rattle.paper.specs.Replies.{Begun, Reply, bytesOf}
@@ -129,23 +131,23 @@ knows s r =
     }) .is
 
 -- one exchange of a session
-module _ (s : Session) (r : List ℕ) (i : Sound s) (b : allB (λ (x : ℕ). ltb x 256) r ≡ true) (room : length (s .store) ≤ 16) where
+module _ (st : Reading) (s : Session) (r : List ℕ) (i : Sound s) (b : allB (λ (x : ℕ). ltb x 256) r ≡ true) (room : length (s .store) ≤ 16) where
   abbrev x : Reply
   x = decideOf s r .reply
 
-  back : readReply (bytesOf x) ≡ x
-  back = read-back x (good-step s r i b .fit)
+  back : readReply st (bytesOf x) ≡ x
+  back = read-back st x (good-step s r i b .fit)
 
-  pub step-none : partOf (ledgerOf s) r (stepOf s r 512 .bytes) ≡ 0
+  pub step-none : partOf st (ledgerOf s) r (stepOf s r 512 .bytes) ≡ 0
   unfolding stepOf partOf first
   step-none =
       let g = good-step s r i b in
       let f = fit-decide s r room in
       let o : tell (ledgerOf s) r x .ok ≡ true = ap (λ (L : Ledger). L .ok) (g .tells) in
       let h : length (tell (ledgerOf s) r x .held) ≤ 16 = let e = ap (λ (L : Ledger). length (L .held)) (g .tells) in omega (arith, e, length-map (decideOf s r .next .store) line, f .room) in
-      rw (whole-back x (g .fit) (knows s r) (f .bytes), back, hears s r, reply-none (ledgerOf s) r x o h)
+      rw (whole-back st x (g .fit) (knows s r) (f .bytes), back, hears s r, reply-none (ledgerOf s) r x o h)
 
-  pub step-hear : hear (ledgerOf s) r (readReply (stepOf s r 512 .bytes)) ≡ ledgerOf (stepOf s r 512 .next)
+  pub step-hear : hear (ledgerOf s) r (readReply st (stepOf s r 512 .bytes)) ≡ ledgerOf (stepOf s r 512 .next)
   unfolding stepOf
   step-hear = rw (back, hears s r) (good-step s r i b .tells)
 
@@ -154,13 +156,13 @@ unfolding stepOf
 room-step s r h = fit-decide s r h .room
 
 -- ON THE REPLIES OF A SESSION NOTHING IS BROKEN, however long it runs
-pub watched-session : (n : ℕ) (s : Session) (rs : List (List ℕ)) → Sound s → length (s .store) ≤ 16 → Bytes rs → watched n (ledgerOf s) rs (replies s rs) .part ≡ 0
+pub watched-session : (st : Reading) (n : ℕ) (s : Session) (rs : List (List ℕ)) → Sound s → length (s .store) ≤ 16 → Bytes rs → watched st n (ledgerOf s) rs (replies s rs) .part ≡ 0
 unfolding watched replies allB
-watched-session n s [] i room b = refl
-watched-session n s (r ∷ rs) i room b =
+watched-session st n s [] i room b = refl
+watched-session st n s (r ∷ rs) i room b =
     let b0 = left (allB (λ (x : ℕ). ltb x 256) r) _ b in
-    rw (step-none s r i b0 room, step-hear s r i b0 room)
-    (watched-session (n + 1) (stepOf s r 512 .next) rs (sound-step s r i b0) (room-step s r room) (right (allB (λ (x : ℕ). ltb x 256) r) _ b))
+    rw (step-none st s r i b0 room, step-hear st s r i b0 room)
+    (watched-session (further st (stepOf s r 512 .bytes)) (n + 1) (stepOf s r 512 .next) rs (sound-step s r i b0) (room-step s r room) (right (allB (λ (x : ℕ). ltb x 256) r) _ b))
 
-pub watched-fresh : (rs : List (List ℕ)) → Bytes rs → watched 1 blank rs (replies fresh rs) .part ≡ 0
-watched-fresh rs b = watched-session 1 fresh rs sound-fresh (omega arith) b
+pub watched-fresh : (rs : List (List ℕ)) → Bytes rs → watched opening 1 blank rs (replies fresh rs) .part ≡ 0
+watched-fresh rs b = watched-session opening 1 fresh rs sound-fresh (omega arith) b

@@ -9,6 +9,8 @@ use lib.ListN.{length}
 use borrow.Author.Tests.{eqb-true, eqb-false}
 use Rattle.paper.specs.declared.Serial.{Serial}
 use Rattle.paper.specs.declared.Line.{Line}
+use Rattle.paper.specs.declared.Reading.{Reading}
+use Rattle.paper.specs.Reading.{opening, further}
 use Rattle.paper.specs.Words.{Test, first, allB, anyB}
 use Rattle.paper.specs.Numbers.{u32}
 use Rattle.paper.specs.Kinds.{finishKind, discardKind, endKind, abandonKind, surfacePlace}
@@ -22,6 +24,7 @@ use Rattle.paper.specs.Watch.{eventPart, tailPart, _told, startedPart, l
 use Rattle.paper.proofs.Bools.{both, split}
 use Rattle.paper.proofs.Ways.{first-none, yes-of}
 use Rattle.paper.proofs.Between.{in-order-kept}
+use Rattle.paper.proofs.Again.{pairs-again}
 
 -- a number that is not told
 said-none : (n : ℕ) (ts : List Test) → first (n told ∷ ts) ≡ 0 → (n ≡ 0) × (first ts ≡ 0)
@@ -109,31 +112,31 @@ module _ (L : Ledger) (r : List ℕ) (o : L .ok ≡ true) where
   reply-ok (Reply.Started b t) z = started-ok b t z
   reply-ok (Reply.Listed l0 l1) z = listed-ok l0 l1 z
 
-  pub hear-ok : (a : List ℕ) → partOf L r a ≡ 0 → hear L r (readReply a) .ok ≡ true
+  pub hear-ok : (st : Reading) (a : List ℕ) → partOf st L r a ≡ 0 → hear L r (readReply st a) .ok ≡ true
   unfolding partOf
-  hear-ok a z =
-      let t1 = first-none (not (wholeReply a)) 1 _ (λ e. omega arith) z in
-      let t2 = first-none (not (heard r (readReply a))) 2 _ (λ e. omega arith) (t1 .1) in
-      both (yes-of (heard r (readReply a)) (t2 .0)) (reply-ok (readReply a) (said-none (replyPart L r (readReply a)) [] (t2 .1) .0))
+  hear-ok st a z =
+      let t1 = first-none (not (wholeReply st a)) 1 _ (λ e. omega arith) z in
+      let t2 = first-none (not (heard r (readReply st a))) 2 _ (λ e. omega arith) (t1 .1) in
+      both (yes-of (heard r (readReply st a)) (t2 .0)) (reply-ok (readReply st a) (said-none (replyPart L r (readReply st a)) [] (t2 .1) .0))
 
 -- a verdict without a broken part: a reply for each record, and the ledger that they tell, in order
-pub record Sound (L : Ledger) (rs answers : List (List ℕ)) (v : Verdict) : Type 0 where
+pub record Sound (st : Reading) (L : Ledger) (rs answers : List (List ℕ)) (v : Verdict) : Type 0 where
   pub even : length rs ≡ length answers
-  pub ledger : v .ledger ≡ (told) L (pairs rs answers)
-  pub ok : (told) L (pairs rs answers) .ok ≡ true
+  pub ledger : v .ledger ≡ (told) L (pairs st rs answers)
+  pub ok : (told) L (pairs st rs answers) .ok ≡ true
 
-pub watched-sound : (n : ℕ) (L : Ledger) (rs answers : List (List ℕ)) → L .ok ≡ true → watched n L rs answers .part ≡ 0 → Sound L rs answers (watched n L rs answers)
+pub watched-sound : (st : Reading) (n : ℕ) (L : Ledger) (rs answers : List (List ℕ)) → L .ok ≡ true → watched st n L rs answers .part ≡ 0 → Sound st L rs answers (watched st n L rs answers)
 unfolding watched pairs Rattle.paper.specs.Ledger.told
-watched-sound n L [] [] o z = record { even = refl; ledger = refl; ok = o }
-watched-sound n L (r ∷ rs) [] o z = absurd (omega (arith, z))
-watched-sound n L [] (a ∷ answers) o z = absurd (omega (arith, z))
-watched-sound n L (r ∷ rs) (a ∷ answers) o z =
-    split (eqb (partOf L r a) 0)
+watched-sound st n L [] [] o z = record { even = refl; ledger = refl; ok = o }
+watched-sound st n L (r ∷ rs) [] o z = absurd (omega (arith, z))
+watched-sound st n L [] (a ∷ answers) o z = absurd (omega (arith, z))
+watched-sound st n L (r ∷ rs) (a ∷ answers) o z =
+    split (eqb (partOf st L r a) 0)
     (λ p.
-    let k = watched-sound (n + 1) (hear L r (readReply a)) rs answers (hear-ok L r o a (eqb-true (partOf L r a) 0 p)) (rw p at z) in
+    let k = watched-sound (further st a) (n + 1) (hear L r (readReply st a)) rs answers (hear-ok L r o st a (eqb-true (partOf st L r a) 0 p)) (rw p at z) in
     rw p (record { even = ap suc (k .even); ledger = k .ledger; ok = k .ok }))
-    (λ p. absurd (eqb-false (partOf L r a) 0 p (rw p at z)))
+    (λ p. absurd (eqb-false (partOf st L r a) 0 p (rw p at z)))
 
 -- IF NOTHING IS BROKEN, DEMAND 3 HOLDS of the records and replies, whoever wrote them
-pub watched-kept : (rs answers : List (List ℕ)) → watched 1 blank rs answers .part ≡ 0 → Kept (pairs rs answers)
-watched-kept rs answers z = in-order-kept (pairs rs answers) (watched-sound 1 blank rs answers refl z .ok)
+pub watched-kept : (rs answers : List (List ℕ)) → watched opening 1 blank rs answers .part ≡ 0 → Kept (pairs opening rs answers)
+watched-kept rs answers z = in-order-kept (pairs opening rs answers) (pairs-again opening rs answers) (watched-sound opening 1 blank rs answers refl z .ok)

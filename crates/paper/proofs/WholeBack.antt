@@ -10,6 +10,7 @@ use lib.Seq.{getD-append-add}
 use borrow.Author.Tests.{eq-eqb, ne-eqb, le-leb}
 use Rattle.paper.specs.declared.Serial.{Serial}
 use Rattle.paper.specs.declared.Surface.{Surface}
+use Rattle.paper.specs.declared.Reading.{Reading}
 use Rattle.paper.specs.Words.{flat}
 use Rattle.paper.specs.Numbers.{u8, u16, bytes16, bytes32, serialNos, surfaceNos}
 use Rattle.paper.specs.Kinds.{configureKind, beginKind, listsKind, abandonKind, replyTo, malformedReply, wordWidth, shownWidth, membersPlace}
@@ -70,29 +71,29 @@ Known (Reply.Started b t) = Unit {0}
 Known (Reply.Listed l0 l1) = Unit {0}
 
 -- a head that says its length, a known kind, and an end where the bytes end
-framed-whole : (kind number : ℕ) (rest : List ℕ) → kind < 65536 → number < 65536 → length rest ≤ 506 → ((leb (replyTo configureKind) kind && leb kind (replyTo abandonKind)) || (eqb kind malformedReply && not (eqb number 0))) ≡ true
-    → replyEnd (framed kind number rest) ≡ length (framed kind number rest) → wholeReply (framed kind number rest) ≡ true
+framed-whole : (st : Reading) (kind number : ℕ) (rest : List ℕ) → kind < 65536 → number < 65536 → length rest ≤ 506 → ((leb (replyTo configureKind) kind && leb kind (replyTo abandonKind)) || (eqb kind malformedReply && not (eqb number 0))) ≡ true
+    → replyEnd st (framed kind number rest) ≡ length (framed kind number rest) → wholeReply st (framed kind number rest) ≡ true
 unfolding wholeReply
-framed-whole kind number rest k n l known end =
+framed-whole st kind number rest k n l known end =
     let a : u16 (framed kind number rest) 0 ≡ 2 + length rest = two-back (2 + length rest) (omega (arith, l)) in
     let b : u16 (framed kind number rest) 2 ≡ kind = two-back kind k in
     let c : u16 (framed kind number rest) 4 ≡ number = two-back number n in
     let m : length (framed kind number rest) ≡ 6 + length rest = omega arith in
     both (le-leb 6 (length (framed kind number rest)) (omega (arith, m)))
     (both (eq-eqb (length (framed kind number rest)) (4 + u16 (framed kind number rest) 0) (omega (arith, m, a)))
-    (both {a = replyKind (framed kind number rest)} (rw (b, c) known) (eq-eqb (length (framed kind number rest)) (replyEnd (framed kind number rest)) (sym end))))
+    (both {a = replyKind (framed kind number rest)} (rw (b, c) known) (eq-eqb (length (framed kind number rest)) (replyEnd st (framed kind number rest)) (sym end))))
 
 begun-length : (b : Begun) → length (begunBytes b) ≡ 14 + 4 * length (inOrder (b .sets))
 unfolding begunBytes bytes32
 begun-length b = omega (arith, words-length (serialNos (inOrder (b .sets))), length-map (inOrder (b .sets)) (λ (n : Serial). n .0))
 
-refused-end : (kind n : ℕ) → n < 65536 → (n ≡ 0 → ⊥) → replyEnd (framed kind n []) ≡ length (framed kind n [])
+refused-end : (st : Reading) (kind n : ℕ) → n < 65536 → (n ≡ 0 → ⊥) → replyEnd st (framed kind n []) ≡ length (framed kind n [])
 unfolding replyEnd
-refused-end kind n h z = let c : u16 (framed kind n []) 4 ≡ n = two-back n h in rw (c, ne-eqb n 0 z)
+refused-end st kind n h z = let c : u16 (framed kind n []) 4 ≡ n = two-back n h in rw (c, ne-eqb n 0 z)
 
-done-end : (kind : ℕ) (t : Tail) → kind < 9 → (kind ≡ beginKind → ⊥) → (kind ≡ listsKind → ⊥) → replyEnd (framed (replyTo kind) 0 (tailBytes t)) ≡ length (framed (replyTo kind) 0 (tailBytes t))
+done-end : (st : Reading) (kind : ℕ) (t : Tail) → kind < 9 → (kind ≡ beginKind → ⊥) → (kind ≡ listsKind → ⊥) → replyEnd st (framed (replyTo kind) 0 (tailBytes t)) ≡ length (framed (replyTo kind) 0 (tailBytes t))
 unfolding replyEnd
-done-end kind t h z2 z3 =
+done-end st kind t h z2 z3 =
     let b : u16 (framed (replyTo kind) 0 (tailBytes t)) 2 ≡ replyTo kind = two-back (replyTo kind) (omega arith) in
     let e = tail-end (bytes16 (2 + length (tailBytes t)) ++ bytes16 (replyTo kind) ++ bytes16 0) t 6 refl in
     rw (b, ne-eqb (replyTo kind) (replyTo beginKind) (λ q. z2 (omega arith)), ne-eqb (replyTo kind) (replyTo listsKind) (λ q. z3 (omega arith))) e
@@ -101,25 +102,25 @@ members : (b : Begun) (t : Tail) → membersOf (framed (replyTo beginKind) 0 (be
 unfolding begunBytes bytes32
 members b t = sym (length-order (b .sets))
 
-started-end : (b : Begun) (t : Tail) → replyEnd (framed (replyTo beginKind) 0 (begunBytes b ++ tailBytes t)) ≡ length (framed (replyTo beginKind) 0 (begunBytes b ++ tailBytes t))
+started-end : (st : Reading) (b : Begun) (t : Tail) → replyEnd st (framed (replyTo beginKind) 0 (begunBytes b ++ tailBytes t)) ≡ length (framed (replyTo beginKind) 0 (begunBytes b ++ tailBytes t))
 unfolding replyEnd
-started-end b t =
+started-end st b t =
     let six = bytes16 (2 + length (begunBytes b ++ tailBytes t)) ++ bytes16 (replyTo beginKind) ++ bytes16 0 in
     let m : membersOf (framed (replyTo beginKind) 0 (begunBytes b ++ tailBytes t)) ≡ length (inOrder (b .sets)) = members b t in
     tail-end (six ++ begunBytes b) t (membersPlace + wordWidth * membersOf (framed (replyTo beginKind) 0 (begunBytes b ++ tailBytes t))) (omega (arith, m, begun-length b))
 
-listed-end : (l0 l1 : List Serial) → replyEnd (framed (replyTo listsKind) 0 (length l0 ∷ length l1 ∷ words (serialNos (l0 ++ l1)))) ≡ length (framed (replyTo listsKind) 0 (length l0 ∷ length l1 ∷ words (serialNos (l0 ++ l1))))
+listed-end : (st : Reading) (l0 l1 : List Serial) → replyEnd st (framed (replyTo listsKind) 0 (length l0 ∷ length l1 ∷ words (serialNos (l0 ++ l1)))) ≡ length (framed (replyTo listsKind) 0 (length l0 ∷ length l1 ∷ words (serialNos (l0 ++ l1))))
 unfolding replyEnd
-listed-end l0 l1 = omega (arith, words-length (serialNos (l0 ++ l1)), length-map (l0 ++ l1) (λ (n : Serial). n .0), length-append l0 l1)
+listed-end st l0 l1 = omega (arith, words-length (serialNos (l0 ++ l1)), length-map (l0 ++ l1) (λ (n : Serial). n .0), length-append l0 l1)
 
 -- a reply that fits, of a known kind, is whole
-pub whole-back : (x : Reply) → Fit x → Known x → length (bytesOf x) ≤ 512 → wholeReply (bytesOf x) ≡ true
+pub whole-back : (st : Reading) (x : Reply) → Fit x → Known x → length (bytesOf x) ≤ 512 → wholeReply st (bytesOf x) ≡ true
 unfolding bytesOf
-whole-back (Reply.Refused kind n) f k l =
-    framed-whole kind n [] (k .1) (f .1) (omega arith) (rw (ne-eqb n 0 (f .2), mathlib.Core.Bool.and-true) (k .0)) (refused-end kind n (f .1) (f .2))
-whole-back (Reply.Done kind t) f k l =
-    framed-whole (replyTo kind) 0 (tailBytes t) (omega arith) (omega arith) (omega (arith, l)) (or-left _ _ (both (le-leb (replyTo configureKind) (replyTo kind) (omega (arith, k .0))) (le-leb (replyTo kind) (replyTo abandonKind) (omega (arith, k .1)))))
-    (done-end kind t (k .1) (f .1) (f .2))
-whole-back (Reply.Started b t) f k l = framed-whole (replyTo beginKind) 0 (begunBytes b ++ tailBytes t) (omega arith) (omega arith) (omega (arith, l)) refl (started-end b t)
-whole-back (Reply.Listed l0 l1) f k l =
-    framed-whole (replyTo listsKind) 0 (length l0 ∷ length l1 ∷ words (serialNos (l0 ++ l1))) (omega arith) (omega arith) (omega (arith, l)) refl (listed-end l0 l1)
+whole-back st (Reply.Refused kind n) f k l =
+    framed-whole st kind n [] (k .1) (f .1) (omega arith) (rw (ne-eqb n 0 (f .2), mathlib.Core.Bool.and-true) (k .0)) (refused-end st kind n (f .1) (f .2))
+whole-back st (Reply.Done kind t) f k l =
+    framed-whole st (replyTo kind) 0 (tailBytes t) (omega arith) (omega arith) (omega (arith, l)) (or-left _ _ (both (le-leb (replyTo configureKind) (replyTo kind) (omega (arith, k .0))) (le-leb (replyTo kind) (replyTo abandonKind) (omega (arith, k .1)))))
+    (done-end st kind t (k .1) (f .1) (f .2))
+whole-back st (Reply.Started b t) f k l = framed-whole st (replyTo beginKind) 0 (begunBytes b ++ tailBytes t) (omega arith) (omega arith) (omega (arith, l)) refl (started-end st b t)
+whole-back st (Reply.Listed l0 l1) f k l =
+    framed-whole st (replyTo listsKind) 0 (length l0 ∷ length l1 ∷ words (serialNos (l0 ++ l1))) (omega arith) (omega arith) (omega (arith, l)) refl (listed-end st l0 l1)

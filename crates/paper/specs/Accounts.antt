@@ -10,7 +10,7 @@ use Rattle.paper.specs.Output.{Tail}
 use Rattle.paper.specs.declared.Shown.{Shown}
 use Rattle.paper.specs.Replies.{Reply}
 use Rattle.paper.specs.declared.Line.{Line}
-use Rattle.paper.specs.Ledger.{Ledger, Exchange, readReply, lineOf}
+use Rattle.paper.specs.Ledger.{Ledger, Exchange, replyIn, lineOf}
 
 -- how often n stands in a list
 unfoldable pub count : ℕ → List ℕ → ℕ
@@ -43,19 +43,19 @@ tailIn (Reply.Listed l0 l1) = record { handed = []; thrown = []; released = [] }
 -- of all exchanges
 unfoldable pub begunAll : List Exchange → List Line
 begunAll [] = []
-begunAll (x ∷ xs) = begunIn (x .said) (readReply (x .answered)) ++ begunAll xs
+begunAll (x ∷ xs) = begunIn (x .said) (replyIn x) ++ begunAll xs
 
 unfoldable pub handedAll : List Exchange → List ℕ
 handedAll [] = []
-handedAll (x ∷ xs) = map (λ (p : Shown). p .serial .0) (tailIn (readReply (x .answered)) .handed) ++ handedAll xs
+handedAll (x ∷ xs) = map (λ (p : Shown). p .serial .0) (tailIn (replyIn x) .handed) ++ handedAll xs
 
 unfoldable pub thrownAll : List Exchange → List ℕ
 thrownAll [] = []
-thrownAll (x ∷ xs) = serialNos (tailIn (readReply (x .answered)) .thrown) ++ thrownAll xs
+thrownAll (x ∷ xs) = serialNos (tailIn (replyIn x) .thrown) ++ thrownAll xs
 
 unfoldable pub releasedAll : List Exchange → List ℕ
 releasedAll [] = []
-releasedAll (x ∷ xs) = surfaceNos (tailIn (readReply (x .answered)) .released) ++ releasedAll xs
+releasedAll (x ∷ xs) = surfaceNos (tailIn (replyIn x) .released) ++ releasedAll xs
 
 -- Each picture begun with output flag 1 is current or waiting, handed out once, or thrown away, exactly one of these;
 -- each surface was begun as often as it was released, and once more where it is held

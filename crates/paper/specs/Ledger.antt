@@ -10,14 +10,16 @@ use Rattle.paper.specs.declared.Shown.{Shown}
 use Rattle.paper.specs.declared.Line.{Line}
 use Rattle.paper.specs.Words.{keep, allB, anyB}
 use Rattle.paper.specs.Numbers.{u8, u16, u32, i32, bit, missing, aSerial, aSurface, sameSerial}
-use Rattle.paper.specs.Kinds.{beginKind, listsKind, finishKind, discardKind, endKind, abandonKind, replyOffset, replyTo, malformedReply, numberPlace, restPlace, listsPlace, surfacePlace, begunFlags, begunSerial, begunCounts, begunMembers, fiveCounts, wordWidth, shownWidth}
+use Rattle.paper.specs.Kinds.{beginKind, listsKind, finishKind, discardKind, endKind, abandonKind, replyOffset, replyTo, malformedReply, numberPlace, restPlace, listsPlace, surfacePlace, begunFlags, begunSerial, begunCounts, begunMembers, fiveCounts, wordWidth}
 use Rattle.paper.specs.Records.{kindOf}
 use Rattle.paper.specs.Poc.{eqZ}
 use Rattle.paper.specs.Sets.{Sets, inOrder}
 use Rattle.paper.specs.Output.{Tail}
 use Rattle.paper.specs.Replies.{Begun, Reply}
+use Rattle.paper.specs.declared.Reading.{Reading}
+use Rattle.paper.specs.Reading.{shownWidthIn}
 
--- Reading a reply's bytes.
+-- Reading a reply's bytes, with what the reader carries in front of it.
 
 unfoldable pub readWords : ℕ → List ℕ → List ℕ
 readWords zero bs = []
@@ -26,20 +28,20 @@ readWords (suc n) bs = u32 bs 0 ∷ readWords n (drop wordWidth bs)
 abbrev pub readSerials : ℕ → List ℕ → List Serial
 readSerials n bs = map aSerial (readWords n bs)
 
-unfoldable pub readShown : ℕ → List ℕ → List Shown
-readShown zero bs = []
-readShown (suc n) bs = record { serial = aSerial (u32 bs 0); surface = aSurface (u32 bs wordWidth); poc = i32 bs (2 * wordWidth) } ∷ readShown n (drop shownWidth bs)
+unfoldable pub readShown : Reading → ℕ → List ℕ → List Shown
+readShown st zero bs = []
+readShown st (suc n) bs = record { serial = aSerial (u32 bs 0); surface = aSurface (u32 bs wordWidth); poc = i32 bs (2 * wordWidth) } ∷ readShown st n (drop (shownWidthIn st) bs)
 
 -- a count, and as many serials or surfaces; behind it another
 unfoldable pub readReleased : List ℕ → List ℕ
 readReleased bs = readWords (u8 bs 0) (drop 1 bs)
 
-unfoldable pub readTail : List ℕ → Tail
-readTail bs =
+unfoldable pub readTail : Reading → List ℕ → Tail
+readTail st bs =
     record {
-      handed = readShown (u8 bs 0) (drop 1 bs);
-      thrown = map aSerial (readReleased (drop (shownWidth * u8 bs 0) (drop 1 bs)));
-      released = map aSurface (readReleased (drop (wordWidth * u8 (drop (shownWidth * u8 bs 0) (drop 1 bs)) 0) (drop 1 (drop (shownWidth * u8 bs 0) (drop 1 bs)))));
+      handed = readShown st (u8 bs 0) (drop 1 bs);
+      thrown = map aSerial (readReleased (drop (shownWidthIn st * u8 bs 0) (drop 1 bs)));
+      released = map aSurface (readReleased (drop (wordWidth * u8 (drop (shownWidthIn st * u8 bs 0) (drop 1 bs)) 0) (drop 1 (drop (shownWidthIn st * u8 bs 0) (drop 1 bs)))));
     }
 
 -- five counts and the words behind them
@@ -68,12 +70,12 @@ readBegun bs =
 abbrev pub setWords : List ℕ → ℕ
 setWords bs = fiveCounts bs begunCounts
 
-unfoldable pub readReply : List ℕ → Reply
-readReply bs =
+unfoldable pub readReply : Reading → List ℕ → Reply
+readReply st bs =
     cond (not (eqb (u16 bs numberPlace) 0)) (Reply.Refused (kindOf bs) (u16 bs numberPlace))
-    (cond (eqb (kindOf bs) (replyTo beginKind)) (Reply.Started (readBegun (drop restPlace bs)) (readTail (drop (wordWidth * setWords (drop restPlace bs)) (drop begunMembers (drop restPlace bs)))))
+    (cond (eqb (kindOf bs) (replyTo beginKind)) (Reply.Started (readBegun (drop restPlace bs)) (readTail st (drop (wordWidth * setWords (drop restPlace bs)) (drop begunMembers (drop restPlace bs)))))
     (cond (eqb (kindOf bs) (replyTo listsKind)) (Reply.Listed (readSerials (u8 bs restPlace) (drop listsPlace bs)) (readSerials (u8 bs (restPlace + 1)) (drop (wordWidth * u8 bs restPlace) (drop listsPlace bs))))
-    (Reply.Done (kindOf bs - replyOffset) (readTail (drop restPlace bs)))))
+    (Reply.Done (kindOf bs - replyOffset) (readTail st (drop restPlace bs)))))
 
 -- The ledger: a line for each picture whose surface is unreleased since its begin.
 -- `wants`: it was begun with output flag 1, and was neither handed out nor thrown away.
@@ -204,14 +206,19 @@ heard r (Reply.Listed l0 l1) = eqb listsKind (kindOf r)
 abbrev pub hear : Ledger → List ℕ → Reply → Ledger
 hear L r x = record { held = tell L r x .held; current = tell L r x .current; begun = tell L r x .begun; ok = heard r x && tell L r x .ok }
 
--- a record and the bytes of its reply
+-- a record and the bytes of its reply, and what the reader of the replies carries in front of that one
 pub record Exchange : Type 0 where
   pub said : List ℕ
   pub answered : List ℕ
+  pub reading : Reading
+
+-- what its reply says
+abbrev pub replyIn : Exchange → Reply
+replyIn x = readReply (x .reading) (x .answered)
 
 abbrev pub blank : Ledger
 blank = record { held = []; current = []; begun = 0; ok = true }
 
 unfoldable pub told : Ledger → List Exchange → Ledger
 told L [] = L
-told L (x ∷ xs) = told (hear L (x .said) (readReply (x .answered))) xs
+told L (x ∷ xs) = told (hear L (x .said) (replyIn x)) xs

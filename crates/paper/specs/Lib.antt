@@ -15,6 +15,7 @@ pub mod RefLists
 pub mod Calls
 pub mod Replies
 pub mod Step
+pub mod Reading
 pub mod Ledger
 pub mod WholeReply
 pub mod Accounts

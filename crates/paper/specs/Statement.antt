@@ -16,13 +16,17 @@ use Rattle.paper.specs.Output.{Tail}
 use Rattle.paper.specs.Replies.{Begun, Reply}
 use Rattle.paper.specs.Step.{Call, stepOf, afterCalls, answeredOf}
 use Rattle.paper.specs.declared.Line.{Line}
-use Rattle.paper.specs.Ledger.{Ledger, Exchange, linesOf, lies, uponAll, events, none, names, blank, told, readReply}
+use Rattle.paper.specs.Ledger.{Ledger, Exchange, linesOf, lies, uponAll, events, none, names, blank, told, replyIn}
+use Rattle.paper.specs.declared.Reading.{Reading}
+use Rattle.paper.specs.Reading.{opening, further}
+use Rattle.paper.specs.Watch.{pairs}
 use Rattle.paper.specs.Accounts.{Accounts, count, serials, surfaces, wanting, tailIn, begunAll, handedAll, thrownAll, releasedAll}
 
--- the exchanges of a session with some records
-unfoldable pub exchanges : Session → List (List ℕ) → List Exchange
-exchanges s [] = []
-exchanges s (r ∷ rs) = record { said = r; answered = stepOf s r replyLimit .bytes } ∷ exchanges (stepOf s r replyLimit .next) rs
+-- the exchanges of a session with some records: each reply hands on what its reader carries
+unfoldable pub exchanges : Reading → Session → List (List ℕ) → List Exchange
+exchanges st s [] = []
+exchanges st s (r ∷ rs) =
+    record { said = r; answered = stepOf s r replyLimit .bytes; reading = st } ∷ exchanges (further st (stepOf s r replyLimit .bytes)) (stepOf s r replyLimit .next) rs
 
 -- what a session holds, as the lines of a ledger
 abbrev pub line : Picture → Line
@@ -41,9 +45,13 @@ Bytes rs = allB (allB (λ (b : ℕ). ltb b 256)) rs ≡ true
 
 -- THE SENTENCES OF DEMAND 3, of some exchanges, whoever wrote the replies: all told from records and replies.
 
+-- they are told from their records and replies alone: what the reader carries is what the replies in front leave it
+abbrev pub FromBytes : List Exchange → Type 0
+FromBytes xs = pairs opening (map (λ (x : Exchange). x .said) xs) (map (λ (x : Exchange). x .answered) xs) ≡ xs
+
 -- the reply accepts a begin: what it says of its picture, and its tail
 abbrev pub Begins : Exchange → Begun → Tail → Type 0
-Begins x b t = readReply (x .answered) ≡ Reply.Started b t
+Begins x b t = replyIn x ≡ Reply.Started b t
 
 -- the surface that a begin names
 abbrev pub onSurface : Exchange → ℕ
@@ -89,8 +97,8 @@ throwsAway r (Reply.Listed l0 l1) = false
 
 -- thrown away by a named call: where a reply throws something away, its call is one of these
 abbrev pub NamedCall : List Exchange → Type 0
-NamedCall xs = (bs ls : List Exchange) (x : Exchange) → xs ≡ bs ++ (x ∷ ls) → none (tailIn (readReply (x .answered)) .thrown) ≡ false
-    → throwsAway (x .said) (readReply (x .answered)) ≡ true
+NamedCall xs = (bs ls : List Exchange) (x : Exchange) → xs ≡ bs ++ (x ∷ ls) → none (tailIn (replyIn x) .thrown) ≡ false
+    → throwsAway (x .said) (replyIn x) ≡ true
 
 -- a begin throws away only by step 5's clear: it hands nothing out, and none of the pictures that were stored is left
 abbrev pub Clears : List Exchange → Type 0
@@ -99,11 +107,12 @@ Clears xs = (bs ls : List Exchange) (x : Exchange) (b : Begun) (t : Tail) → xs
 
 -- a list names only the current picture, missing entries and stored pictures whose surfaces are unreleased
 abbrev pub Lists : List Exchange → Type 0
-Lists xs = (bs ls : List Exchange) (x : Exchange) (l0 l1 : List Serial) → xs ≡ bs ++ (x ∷ ls) → readReply (x .answered) ≡ Reply.Listed l0 l1
+Lists xs = (bs ls : List Exchange) (x : Exchange) (l0 l1 : List Serial) → xs ≡ bs ++ (x ∷ ls) → replyIn x ≡ Reply.Listed l0 l1
     → names (l0 ++ l1) (linesOf (told blank bs)) ≡ true
 
 -- DEMAND 3 of some exchanges: all of these, and the accounts
 pub record Kept (xs : List Exchange) : Type 0 where
+  pub from-bytes : FromBytes xs
   pub in-order : InOrder xs
   pub sums : Accounts xs (told blank xs)
   pub exactly-one : ExactlyOne xs
@@ -117,9 +126,9 @@ pub record Kept (xs : List Exchange) : Type 0 where
 
 -- DEMAND 3 as one statement: from a fresh session, after any calls with any buffers, refused ones too. rs are the records that were answered.
 pub record Statement (cs : List Call) (rs : List (List ℕ)) : Type 0 where
-  pub kept : Kept (exchanges fresh rs)
+  pub kept : Kept (exchanges opening fresh rs)
   -- the lines of the ledger are the pictures that the session holds
-  pub true-to : told blank (exchanges fresh rs) ≡ ledgerOf (afterCalls fresh cs)
+  pub true-to : told blank (exchanges opening fresh rs) ≡ ledgerOf (afterCalls fresh cs)
 
 abbrev pub Demand : Type 0
 Demand = (cs : List Call) → Bytes (answeredOf cs) → Statement cs (answeredOf cs)

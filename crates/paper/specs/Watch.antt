@@ -12,6 +12,8 @@ use Rattle.paper.specs.Kinds.{finishKind, discardKind, endKind, abandonK
 use Rattle.paper.specs.Sets.{inOrder}
 use Rattle.paper.specs.Output.{Tail}
 use Rattle.paper.specs.Replies.{Begun, Reply}
+use Rattle.paper.specs.declared.Reading.{Reading}
+use Rattle.paper.specs.Reading.{further}
 use Rattle.paper.specs.WholeReply.{wholeReply}
 use Rattle.paper.specs.Ledger.{Ledger, Event, Hand, Throw, Free, Exchange, waitsAs, waits, lies, quietAt, upon, uponAll, events, none, names, clearing, heard, hear, readReply}
 
@@ -74,25 +76,27 @@ replyPart L r (Reply.Started b t) = startedPart L r b t
 replyPart L r (Reply.Listed l0 l1) = listedPart L (l0 ++ l1)
 
 -- 1: the bytes are no whole reply; 2: it is no reply to that record
-unfoldable pub partOf : Ledger → List ℕ → List ℕ → ℕ
-partOf L r a = first (not (wholeReply a) gives 1 ∷ not (heard r (readReply a)) gives 2 ∷ replyPart L r (readReply a) told ∷ [])
+unfoldable pub partOf : Reading → Ledger → List ℕ → List ℕ → ℕ
+partOf st L r a =
+    first (not (wholeReply st a) gives 1 ∷ not (heard r (readReply st a)) gives 2 ∷ replyPart L r (readReply st a) told ∷ [])
 
--- Some records and some replies, from exchange n on: the number of the first that breaks and its part, or 0, and the ledger up to there.
+-- Some records and some replies, from exchange n on, with what the reader of the replies carries there: the number of the first that breaks and
+-- its part, or 0, and the ledger up to there.
 -- 17: a record without its reply; 18: a reply without its record
 pub record Verdict : Type 0 where
   pub at : ℕ
   pub part : ℕ
   pub ledger : Ledger
 
-unfoldable pub watched : ℕ → Ledger → List (List ℕ) → List (List ℕ) → Verdict
-watched n L [] [] = record { at = n; part = 0; ledger = L }
-watched n L (r ∷ rs) [] = record { at = n; part = 17; ledger = L }
-watched n L [] (a ∷ answers) = record { at = n; part = 18; ledger = L }
-watched n L (r ∷ rs) (a ∷ answers) =
-    cond (eqb (partOf L r a) 0) (watched (n + 1) (hear L r (readReply a)) rs answers) (record { at = n; part = partOf L r a; ledger = L })
+unfoldable pub watched : Reading → ℕ → Ledger → List (List ℕ) → List (List ℕ) → Verdict
+watched st n L [] [] = record { at = n; part = 0; ledger = L }
+watched st n L (r ∷ rs) [] = record { at = n; part = 17; ledger = L }
+watched st n L [] (a ∷ answers) = record { at = n; part = 18; ledger = L }
+watched st n L (r ∷ rs) (a ∷ answers) =
+    cond (eqb (partOf st L r a) 0) (watched (further st a) (n + 1) (hear L r (readReply st a)) rs answers) (record { at = n; part = partOf st L r a; ledger = L })
 
--- records and replies as exchanges, as far as both go
-unfoldable pub pairs : List (List ℕ) → List (List ℕ) → List Exchange
-pairs [] answers = []
-pairs (r ∷ rs) [] = []
-pairs (r ∷ rs) (a ∷ answers) = record { said = r; answered = a } ∷ pairs rs answers
+-- records and replies as exchanges, as far as both go: each reply hands on what the reader carries
+unfoldable pub pairs : Reading → List (List ℕ) → List (List ℕ) → List Exchange
+pairs st [] answers = []
+pairs st (r ∷ rs) [] = []
+pairs st (r ∷ rs) (a ∷ answers) = record { said = r; answered = a; reading = st } ∷ pairs (further st a) rs answers

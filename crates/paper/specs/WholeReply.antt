@@ -6,7 +6,9 @@ use lib.ListN.{length}
 use lib.Dec.{leb, eqb}
 use Rattle.paper.specs.Numbers.{u8, u16}
 use Rattle.paper.specs.Records.{lengthOf, kindOf}
-use Rattle.paper.specs.Kinds.{configureKind, beginKind, listsKind, abandonKind, replyTo, malformedReply, bodyPlace, numberPlace, restPlace, countsPlace, membersPlace, fiveCounts, listsPlace, wordWidth, shownWidth}
+use Rattle.paper.specs.Kinds.{configureKind, beginKind, listsKind, abandonKind, replyTo, malformedReply, bodyPlace, numberPlace, restPlace, countsPlace, membersPlace, fiveCounts, listsPlace, wordWidth}
+use Rattle.paper.specs.declared.Reading.{Reading}
+use Rattle.paper.specs.Reading.{shownWidthIn}
 
 -- "A tail is: u8 count and (serial u32, surface u32, POC i32) of each picture handed out; u8 count and serials thrown away; u8 count and
 -- surfaces released." The place behind a count at a place and as many items of a width:
@@ -33,11 +35,11 @@ tailPlace r = cond (eqb (kindOf r) (replyTo beginKind)) (membersPlace + wordWidt
 
 -- "kinds 1 and 4 to 8 hold the refusal number 0 and a tail. Begin holds 0, POC i32, flags u8, serial u32, five u8 counts, their members as u32
 -- serials, the tail. Lists holds 0, two u8 lengths, the u32 serials." A refusal holds its number alone.
-unfoldable pub replyEnd : List ℕ → ℕ
-replyEnd r =
+unfoldable pub replyEnd : Reading → List ℕ → ℕ
+replyEnd st r =
     cond (not (eqb (u16 r numberPlace) 0)) restPlace
     (cond (eqb (kindOf r) (replyTo listsKind)) (listsPlace + wordWidth * (u8 r restPlace + u8 r (restPlace + 1)))
-    (tailEnd shownWidth r (tailPlace r)))
+    (tailEnd (shownWidthIn st) r (tailPlace r)))
 
 -- "kind 256 + record kind", or that of number 13, which is always a refusal
 abbrev pub replyKind : List ℕ → Bool
@@ -45,5 +47,5 @@ replyKind r =
     (leb (replyTo configureKind) (kindOf r) && leb (kindOf r) (replyTo abandonKind))
     || (eqb (kindOf r) malformedReply && not (eqb (u16 r numberPlace) 0))
 
-unfoldable pub wholeReply : List ℕ → Bool
-wholeReply r = leb restPlace (length r) && (eqb (length r) (bodyPlace + lengthOf r) && (replyKind r && eqb (length r) (replyEnd r)))
+unfoldable pub wholeReply : Reading → List ℕ → Bool
+wholeReply st r = leb restPlace (length r) && (eqb (length r) (bodyPlace + lengthOf r) && (replyKind r && eqb (length r) (replyEnd st r)))

@@ -13,6 +13,8 @@ use Rattle.paper.specs.Records.{lengthOf}
 use Rattle.paper.specs.State.{fresh}
 use Rattle.paper.specs.State as P
 use Rattle.paper.specs.Step.{Call, stepOf, replies, sessionAfter, answeredOf}
+use Rattle.paper.specs.declared.Reading.{Reading}
+use Rattle.paper.specs.Reading.{opening, further}
 use Rattle.paper.specs.Ledger.{Exchange, blank, told}
 use Rattle.paper.specs.Statement.{Bytes, Kept, Statement, exchanges, ledgerOf}
 use Rattle.paper.specs.Watch.{watched, pairs}
@@ -48,11 +50,11 @@ replies-whole rs (q ∷ qs) =
     both (eq-eqb (length a) (4 + lengthOf a) (omega (arith, h))) (subst (λ (s : P.Session). allB isWhole (replies s qs) ≡ true) (after-append fresh rs (q ∷ [])) (replies-whole (rs ++ (q ∷ [])) qs))
 
 -- with its records, and whatever records come behind these, they are the session's exchanges
-pairs-front : (s : P.Session) (rs more : List (List ℕ)) → pairs (rs ++ more) (replies s rs) ≡ exchanges s rs
+pairs-front : (st : Reading) (s : P.Session) (rs more : List (List ℕ)) → pairs st (rs ++ more) (replies s rs) ≡ exchanges st s rs
 unfolding pairs replies exchanges
-pairs-front s [] [] = refl
-pairs-front s [] (q ∷ qs) = refl
-pairs-front s (r ∷ rs) more = ap (λ (xs : List Exchange). record { said = r; answered = stepOf s r 512 .bytes } ∷ xs) (pairs-front (stepOf s r 512 .next) rs more)
+pairs-front st s [] [] = refl
+pairs-front st s [] (q ∷ qs) = refl
+pairs-front st s (r ∷ rs) more = ap (λ (xs : List Exchange). record { said = r; answered = stepOf s r 512 .bytes; reading = st } ∷ xs) (pairs-front (further st (stepOf s r 512 .bytes)) (stepOf s r 512 .next) rs more)
 
 -- calls with room enough, all of them answered
 abbrev roomy : List (List ℕ) → List Call
@@ -108,8 +110,8 @@ module _ (s : Stand) (t : Replays s) where
   cut-made : cut W ≡ replies fresh rs
   cut-made = ap (λ (p : Parts). p .whole) parts-made
 
-  heard : pairs (cut R) (cut W) ≡ exchanges fresh rs
-  heard = ap₂ pairs cut-records cut-made ∙ pairs-front fresh rs (cut (waiting s))
+  heard : pairs opening (cut R) (cut W) ≡ exchanges opening fresh rs
+  heard = ap₂ (pairs opening) cut-records cut-made ∙ pairs-front opening fresh rs (cut (waiting s))
 
   -- WHERE NO WHOLE RECORD WAITS, WHAT WAS MADE IS THE PAPER'S REPLIES TO THE WHOLE RECORDS THAT WERE READ
   pub replay-replies : sizeOf (waiting s) ≡ 0 → W ≡ joined (replies fresh (cut R))
@@ -132,5 +134,5 @@ module _ (s : Stand) (t : Replays s) where
         }
 
     -- and a ledger over them finds nothing broken
-    pub replay-unbroken : sizeOf (waiting s) ≡ 0 → watched 1 blank (cut R) (cut W) .part ≡ 0
-    replay-unbroken n = ap₂ (λ (x y : List (List ℕ)). watched 1 blank x y .part) (all-taken n) cut-made ∙ watched-fresh rs records-bytes
+    pub replay-unbroken : sizeOf (waiting s) ≡ 0 → watched opening 1 blank (cut R) (cut W) .part ≡ 0
+    replay-unbroken n = ap₂ (λ (x y : List (List ℕ)). watched opening 1 blank x y .part) (all-taken n) cut-made ∙ watched-fresh rs records-bytes

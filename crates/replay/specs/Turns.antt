@@ -8,6 +8,7 @@ use lib.ListN.{length, take}
 use Rattle.paper.specs.Words.{allB}
 use Rattle.paper.specs.State.{fresh}
 use Rattle.paper.specs.Step.{replies, sessionAfter}
+use Rattle.paper.specs.Reading.{opening}
 use Rattle.paper.specs.Ledger.{blank, told}
 use Rattle.paper.specs.Statement.{Kept, ledgerOf}
 use Rattle.paper.specs.Watch.{pairs}
@@ -88,9 +89,9 @@ pub record Replays (s : Stand) : Type 0 where
 -- DEMAND 3 of the program's own bytes: R is what its reads brought, W what it handed to `write_all`, and s where it stands then
 pub record KeptRun (R W : List ℕ) (s : Stand) : Type 0 where
   -- the exchanges of the whole records of R and the replies, as cut by their heads
-  pub kept : Kept (pairs (cut R) (cut W))
+  pub kept : Kept (pairs opening (cut R) (cut W))
   -- the lines of the ledger are the pictures that the session holds
-  pub true-to : told blank (pairs (cut R) (cut W)) ≡ ledgerOf (sessionIn (s .memory))
+  pub true-to : told blank (pairs opening (cut R) (cut W)) ≡ ledgerOf (sessionIn (s .memory))
   -- no byte of the replies is left over, and where no whole record waits, each has its reply
   pub done : restOf W ≡ []
   pub even : sizeOf (waiting s) ≡ 0 → length (cut R) ≡ length (cut W)

@@ -1,7 +1,7 @@
 -- Read this first. What is proved of the code: any two results that the contract of `step` permits are equal in the answer, in the buffer and in the session that
 -- the memory is, and, from memory in normal form, in every word; a run of calls views as the paper's run; so demand 3, what a refusal leaves and writes, and the invariants of all sessions hold of the code.
 use Prim.Native.Nat.{ℕ, suc, _≤_, _<_}
-use mathlib.Core.Path.{_≡_, refl, sym, ap, _∙_, subst}
+use mathlib.Core.Path.{_≡_, refl, sym, ap, ap₂, _∙_, subst}
 use mathlib.Core.List.{List, [], _∷_, _++_}
 use mathlib.Core.Bool.{true}
 use native.Mathlib.Omega.{arith}
@@ -15,6 +15,8 @@ use Rattle.paper.specs.Numbers.{bytes16, replyLimit}
 use Rattle.paper.specs.State.{fresh, normal, allRefs}
 use Rattle.paper.specs.State as P
 use Rattle.paper.specs.Step.{Result, stepOf, sessionAfter, afterCalls, answeredOf}
+use Rattle.paper.specs.declared.Reading.{Reading}
+use Rattle.paper.specs.Reading.{opening, further}
 use Rattle.paper.specs.Ledger.{blank, told}
 use Rattle.paper.specs.Statement.{Bytes, Kept, exchanges, ledgerOf}
 use Rattle.paper.proofs.Bools.{split, both, left, right}
@@ -93,21 +95,25 @@ unfolding afterCalls
 run-views m [] m′ e = ap sessionIn (sym e)
 run-views m (x ∷ xs) m′ h = run-views (x .left) xs m′ (h .1) ∙ ap (λ (v : P.Session). afterCalls v (callsOf xs)) (next-views (h .0))
 
-heard-is : (m : Memory) (xs : List Called) (m′ : Memory) → Run m xs m′ → heardIn xs ≡ exchanges (sessionIn m) (answeredOf (callsOf xs))
+heard-is : (st : Reading) (m : Memory) (xs : List Called) (m′ : Memory) → Run m xs m′ → heardIn st xs ≡ exchanges st (sessionIn m) (answeredOf (callsOf xs))
 unfolding answeredOf exchanges
-heard-is m [] m′ e = refl
-heard-is m (x ∷ xs) m′ h =
+heard-is st m [] m′ e = refl
+heard-is st m (x ∷ xs) m′ h =
     let v = sessionIn m in
-    let rest = heard-is (x .left) xs m′ (h .1) in
+    let a = take (x .answer .len) (x .after) in
     let n = next-views (h .0) in
     split (ltb (length (x .before)) replyLimit)
     (λ e.
     let w : sessionIn (x .left) ≡ v = n ∙ ap (λ (y : Result). y .next) (nothing-written v (x .said) (length (x .before)) (ltb-true (length (x .before)) 512 e)) in
-    rw e (rest ∙ ap (λ (y : P.Session). exchanges y (answeredOf (callsOf xs))) w))
+    rw e (heard-is st (x .left) xs m′ (h .1) ∙ ap (λ (y : P.Session). exchanges st y (answeredOf (callsOf xs))) w))
     (λ e.
     let g = large-room v (x .said) (length (x .before)) e in
+    let w = written-is (h .0) ∙ ap (λ (y : Result). y .bytes) g in
+    let rest = heard-is (further st a) (x .left) xs m′ (h .1) in
     rw e
-    (λ i. record { said = x .said; answered = (written-is (h .0) ∙ ap (λ (y : Result). y .bytes) g) i } ∷ (rest ∙ ap (λ (y : P.Session). exchanges y (answeredOf (callsOf xs))) (n ∙ ap (λ (y : Result). y .next) g)) i))
+    (λ i.
+    record { said = x .said; answered = w i; reading = st }
+    ∷ (rest ∙ ap₂ (λ (b : List ℕ) (y : P.Session). exchanges (further st b) y (answeredOf (callsOf xs))) w (n ∙ ap (λ (y : Result). y .next) g)) i))
 
 -- a run keeps the normal form
 pub run-normal : (m : Memory) (xs : List Called) (m′ : Memory) → Run m xs m′ → NormalMemory m → NormalMemory m′
@@ -144,8 +150,8 @@ module _ (m : Memory) (start : sessionIn m ≡ fresh) (xs : List Called) (m′ :
   reached = comes-to ∙ any-room fresh (callsOf xs)
 
   -- what is heard of the code is the paper's exchange
-  pub code-heard : heardIn xs ≡ exchanges fresh rs
-  code-heard = heard-is m xs m′ run ∙ ap (λ (v : P.Session). exchanges v rs) start
+  pub code-heard : heardIn opening xs ≡ exchanges opening fresh rs
+  code-heard = heard-is opening m xs m′ run ∙ ap (λ (v : P.Session). exchanges opening v rs) start
 
   -- DEMAND 3 OF THE CODE'S OWN BYTES: what is heard keeps it, and the ledger told from it is that of the session that the memory then is
   pub code-demand : Bytes (saidIn xs) → Demanded xs m′

@@ -7,6 +7,8 @@ use lib.ListN.{length, take}
 use lib.Dec.{ltb}
 use Rattle.paper.specs.Numbers.{replyLimit}
 use Rattle.paper.specs.Step.{Call}
+use Rattle.paper.specs.declared.Reading.{Reading}
+use Rattle.paper.specs.Reading.{opening, further}
 use Rattle.paper.specs.Ledger.{Exchange, blank, told}
 use Rattle.paper.specs.Statement.{Kept, ledgerOf}
 use Rattle.session.specs.declared.Answer.{Answer}
@@ -34,13 +36,15 @@ callsOf (x ∷ xs) = record { said = x .said; room = length (x .before) } ∷ ca
 abbrev pub saidIn : List Called → List (List ℕ)
 saidIn xs = map (λ (x : Called). x .said) xs
 
--- what somebody hears: the record and as many bytes of the buffer as the call says, where there was room
-abbrev pub heardIn : List Called → List Exchange
-heardIn [] = []
-heardIn (x ∷ xs) = cond (ltb (length (x .before)) replyLimit) (heardIn xs) (record { said = x .said; answered = take (x .answer .len) (x .after) } ∷ heardIn xs)
+-- what somebody hears: the record and as many bytes of the buffer as the call says, where there was room, read with what the replies in front leave
+abbrev pub heardIn : Reading → List Called → List Exchange
+heardIn st [] = []
+heardIn st (x ∷ xs) =
+    cond (ltb (length (x .before)) replyLimit) (heardIn st xs)
+    (record { said = x .said; answered = take (x .answer .len) (x .after); reading = st } ∷ heardIn (further st (take (x .answer .len) (x .after))) xs)
 
 -- DEMAND 3 of the code's own bytes: of what was heard of some calls, whose last left the memory m
 pub record Demanded (xs : List Called) (m : Memory) : Type 0 where
-  pub kept : Kept (heardIn xs)
+  pub kept : Kept (heardIn opening xs)
   -- the lines of the ledger are the pictures that the session holds
-  pub true-to : told blank (heardIn xs) ≡ ledgerOf (sessionIn m)
+  pub true-to : told blank (heardIn opening xs) ≡ ledgerOf (sessionIn m)

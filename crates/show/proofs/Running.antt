@@ -8,6 +8,9 @@ use lib.Dec.{eqb}
 use lib.ListN.{take}
 use borrow.Author.Tests.{eqb-true, eqb-false, ltb-false}
 use Rattle.paper.specs.Words.{allB}
+use Rattle.paper.specs.declared.Reading.{Reading}
+use Rattle.paper.specs.Reading.{opening, furtherAll}
+use Rattle.paper.proofs.Again.{further-append}
 use Rattle.paper.proofs.Bools.{split, not-both}
 use Rattle.format.specs.Cut.{Parts, sizeOf, joined, isWhole, cut, parts}
 use Rattle.stream.specs.Turns.{through}
@@ -23,7 +26,7 @@ use Rattle.show.specs.Turns.{endLine, Turned, Stand, waiting, readIn, wr
 -- ---- one turn
 
 -- a turn that reads makes no line but the last
-turn-reads : {n held : ℕ} {before written after output : List ℕ} {r : After} → Turned n held before written r after output → sizeOf (take held before) ≡ 0 → take (r .made) output ≡ linesOf n [] ++ endLine r
+turn-reads : {st : Reading} {n held : ℕ} {before written after output : List ℕ} {r : After} → Turned st n held before written r after output → sizeOf (take held before) ≡ 0 → take (r .made) output ≡ linesOf st n [] ++ endLine r
 unfolding linesOf
 turn-reads t z = put-front (t .reads z .1)
 
@@ -32,16 +35,16 @@ unfolding endLine
 none-last r m = rw m
 
 -- while the run goes on, the lines of the replies that it read
-turn-lines : {n held : ℕ} {before written after output : List ℕ} {r : After} (t : Turned n held before written r after output) → r .more ≡ true → take (r .made) output ≡ linesOf n (t .read)
-turn-lines {n} {held} {before} {r = r} t m =
+turn-lines : {st : Reading} {n held : ℕ} {before written after output : List ℕ} {r : After} (t : Turned st n held before written r after output) → r .more ≡ true → take (r .made) output ≡ linesOf st n (t .read)
+turn-lines {st} {n} {held} {before} {r = r} t m =
     split (eqb (sizeOf (take held before)) 0)
     (λ e.
     let z = eqb-true (sizeOf (take held before)) 0 e in
-    turn-reads t z ∙ ap₂ (λ (rs : List (List ℕ)) (l : List ℕ). linesOf n rs ++ l) (sym (t .reads z .0)) (none-last r m) ∙ append-nil (linesOf n (t .read)))
+    turn-reads t z ∙ ap₂ (λ (rs : List (List ℕ)) (l : List ℕ). linesOf st n rs ++ l) (sym (t .reads z .0)) (none-last r m) ∙ append-nil (linesOf st n (t .read)))
     (λ e. let z = eqb-false (sizeOf (take held before)) 0 e in put-front (t .lines (omega arith) .2))
 
 -- a turn that ends the run, and not because of the output, reads
-end-reads : {n held : ℕ} {before written after output : List ℕ} {r : After} → Turned n held before written r after output → r .more ≡ false → r .unwritten ≡ false → sizeOf (take held before) ≡ 0
+end-reads : {st : Reading} {n held : ℕ} {before written after output : List ℕ} {r : After} → Turned st n held before written r after output → r .more ≡ false → r .unwritten ≡ false → sizeOf (take held before) ≡ 0
 end-reads {held = held} {before = before} {r = r} t m u =
     split (eqb (sizeOf (take held before)) 0)
     (λ e. eqb-true (sizeOf (take held before)) 0 e)
@@ -51,7 +54,7 @@ end-reads {held = held} {before = before} {r = r} t m u =
     not-both (r .more) (k .3 ∙ ap not u) m)
 
 -- and leaves no whole reply
-end-waits : {n held : ℕ} {before written after output : List ℕ} {r : After} → Turned n held before written r after output → sizeOf (take held before) ≡ 0 → r .more ≡ false → sizeOf (take (r .held) after) ≡ 0
+end-waits : {st : Reading} {n held : ℕ} {before written after output : List ℕ} {r : After} → Turned st n held before written r after output → sizeOf (take held before) ≡ 0 → r .more ≡ false → sizeOf (take (r .held) after) ≡ 0
 unfolding joined
 end-waits {held = held} {before = before} {after = after} {r = r} t z m =
     let k = t .reads z in
@@ -64,15 +67,16 @@ record SoFar (R W : List ℕ) (s : Stand) : Type 0 where
   seen : List (List ℕ)
   whole : allB isWhole seen ≡ true
   kept : R ≡ joined seen ++ waiting s
-  lines : W ≡ linesOf 1 seen
+  lines : W ≡ linesOf opening 1 seen
   number : s .after .next ≡ numberAfter 1 seen
+  reading : s .after .reading ≡ furtherAll opening seen
 
 nothing-seen : {s : Stand} → Starts s → SoFar [] [] s
-unfolding joined linesOf numberAfter allB
-nothing-seen {s} b = record { seen = []; whole = refl; kept = sym (ap (λ (n : ℕ). take n (s .input)) (b .1)); lines = refl; number = b .0 }
+unfolding joined linesOf numberAfter furtherAll allB
+nothing-seen {s} b = record { seen = []; whole = refl; kept = sym (ap (λ (n : ℕ). take n (s .input)) (b .1)); lines = refl; number = b .0; reading = b .3 }
 
 -- what one turn more reads
-module _ {R W : List ℕ} {b s : Stand} (g : SoFar R W b) (t : Turned (b .after .next) (b .after .held) (b .input) (b .output) (s .after) (s .input) (s .output)) where
+module _ {R W : List ℕ} {b s : Stand} (g : SoFar R W b) (t : Turned (b .after .reading) (b .after .next) (b .after .held) (b .input) (b .output) (s .after) (s .input) (s .output)) where
   all-seen : List (List ℕ)
   all-seen = g .seen ++ t .read
 
@@ -88,15 +92,19 @@ module _ {R W : List ℕ} {b s : Stand} (g : SoFar R W b) (t : Turned (b .after 
   unfolding all-seen
   all-number = t .number ∙ ap (λ (n : ℕ). numberAfter n (t .read)) (g .number) ∙ sym (number-append 1 (g .seen) (t .read))
 
+  all-reading : s .after .reading ≡ furtherAll opening all-seen
+  unfolding all-seen
+  all-reading = t .reading ∙ ap (λ (x : Reading). furtherAll x (t .read)) (g .reading) ∙ sym (further-append opening (g .seen) (t .read))
+
   -- the lines so far, and what the turn handed over
-  all-lines : (more : List ℕ) → writtenIn b s ≡ linesOf (b .after .next) (t .read) ++ more → W ++ writtenIn b s ≡ linesOf 1 all-seen ++ more
+  all-lines : (more : List ℕ) → writtenIn b s ≡ linesOf (b .after .reading) (b .after .next) (t .read) ++ more → W ++ writtenIn b s ≡ linesOf opening 1 all-seen ++ more
   unfolding all-seen
   all-lines more e =
       let rs = g .seen in
       let qs = t .read in
-      ap₂ (λ (x y : List ℕ). x ++ y) (g .lines) (e ∙ ap (λ (n : ℕ). linesOf n qs ++ more) (g .number))
-      ∙ sym (append-assoc (linesOf 1 rs) (linesOf (numberAfter 1 rs) qs) more)
-      ∙ ap (λ (l : List ℕ). l ++ more) (sym (lines-append 1 rs qs))
+      ap₂ (λ (x y : List ℕ). x ++ y) (g .lines) (e ∙ ap₂ (λ (x : Reading) (n : ℕ). linesOf x n qs ++ more) (g .reading) (g .number))
+      ∙ sym (append-assoc (linesOf opening 1 rs) (linesOf (furtherAll opening rs) (numberAfter 1 rs) qs) more)
+      ∙ ap (λ (l : List ℕ). l ++ more) (sym (lines-append opening 1 rs qs))
 
   seen-on : s .after .more ≡ true → SoFar (R ++ readIn b s) (W ++ writtenIn b s) s
   seen-on m =
@@ -104,24 +112,26 @@ module _ {R W : List ℕ} {b s : Stand} (g : SoFar R W b) (t : Turned (b .after 
         seen = all-seen;
         whole = all-whole;
         kept = all-kept;
-        lines = all-lines [] (turn-lines t m ∙ sym (append-nil _)) ∙ append-nil (linesOf 1 all-seen);
+        lines = all-lines [] (turn-lines t m ∙ sym (append-nil _)) ∙ append-nil (linesOf opening 1 all-seen);
         number = all-number;
+        reading = all-reading;
       }
 
 -- ---- the end
 
 abbrev Complete : List ℕ → List ℕ → Stand → Type 0
-Complete R W s = (W ≡ linesOf 1 (cut R) ++ endLine (s .after)) × (waiting s ≡ parts R .rest) × (s .after .next ≡ numberAfter 1 (cut R))
+Complete R W s = (W ≡ linesOf opening 1 (cut R) ++ endLine (s .after)) × (waiting s ≡ parts R .rest) × (s .after .next ≡ numberAfter 1 (cut R)) × (s .after .reading ≡ furtherAll opening (cut R))
 
-ended : {R W : List ℕ} {b s : Stand} → SoFar R W b → Turned (b .after .next) (b .after .held) (b .input) (b .output) (s .after) (s .input) (s .output) → s .after .more ≡ false → s .after .unwritten ≡ false
+ended : {R W : List ℕ} {b s : Stand} → SoFar R W b → Turned (b .after .reading) (b .after .next) (b .after .held) (b .input) (b .output) (s .after) (s .input) (s .output) → s .after .more ≡ false → s .after .unwritten ≡ false
     → Complete (R ++ readIn b s) (W ++ writtenIn b s) s
 ended {R} {W} {b} {s} g t m u =
     let z = end-reads t m u in
     let p = one-cut (all-seen g t) (waiting s) (sym (all-kept g t)) (all-whole g t) (end-waits t z m) in
-    let e = turn-reads t z ∙ ap (λ (rs : List (List ℕ)). linesOf (b .after .next) rs ++ endLine (s .after)) (sym (t .reads z .0)) in (
-      all-lines g t (endLine (s .after)) e ∙ ap (λ (x : Parts). linesOf 1 (x .whole) ++ endLine (s .after)) (sym p),
+    let e = turn-reads t z ∙ ap (λ (rs : List (List ℕ)). linesOf (b .after .reading) (b .after .next) rs ++ endLine (s .after)) (sym (t .reads z .0)) in (
+      all-lines g t (endLine (s .after)) e ∙ ap (λ (x : Parts). linesOf opening 1 (x .whole) ++ endLine (s .after)) (sym p),
       ap (λ (x : Parts). x .rest) (sym p),
       all-number g t ∙ ap (λ (x : Parts). numberAfter 1 (x .whole)) (sym p),
+      all-reading g t ∙ ap (λ (x : Parts). furtherAll opening (x .whole)) (sym p),
     )
 
 -- while the run goes on, and where it ends because no more is read

@@ -9,6 +9,8 @@ use lib.ListN.{length, take}
 use borrow.Author.Tests.{eq-eqb, ne-eqb, lt-ltb, le-ltb}
 use Rattle.wire.specs.Bytes.{over}
 use Rattle.paper.specs.Words.{allB}
+use Rattle.paper.specs.declared.Reading.{Reading}
+use Rattle.paper.specs.Reading.{furtherAll}
 use Rattle.format.specs.Cut.{sizeOf, joined}
 use Rattle.stream.specs.Laid.{Puts}
 use Rattle.stream.specs.declared.Read.{Read}
@@ -24,34 +26,34 @@ use Rattle.show.specs.Turns.{stoppedAt, endLine, Last, FedBy, Turned}
 
 -- ---- the end of the input
 
-pub no-rest : {next held : ℕ} {r : After} {output : List ℕ} → held ≡ 0 → r ≡ stoppedAt next held false → Last next held output r output
+pub no-rest : {st : Reading} {next held : ℕ} {r : After} {output : List ℕ} → held ≡ 0 → r ≡ stoppedAt st next held false → Last st next held output r output
 unfolding endLine
-no-rest {next} {held} {r} {output} z e = rw e (record { same = (refl, refl, refl, refl); line = rw (eq-eqb held 0 z) (put-none output) })
+no-rest {st} {next} {held} {r} {output} z e = rw e (record { same = (refl, refl, refl, refl, refl); line = rw (eq-eqb held 0 z) (put-none output) })
 
-pub a-rest : {next held made : ℕ} {written output : List ℕ} (wrote : Bool) → (held ≡ 0 → ⊥) → made ≡ length (restOf next held) → output ≡ over (restOf next held) written
-    → Last next held written (record { next = next; held = held; made = made; more = false; unread = false; unwritten = not wrote }) output
+pub a-rest : {st : Reading} {next held made : ℕ} {written output : List ℕ} (wrote : Bool) → (held ≡ 0 → ⊥) → made ≡ length (restOf next held) → output ≡ over (restOf next held) written
+    → Last st next held written (record { next = next; held = held; made = made; more = false; unread = false; unwritten = not wrote; reading = st }) output
 unfolding endLine
-a-rest {held = held} wrote n l e = record { same = (refl, refl, refl, refl); line = rw (ne-eqb held 0 n) (record { long = l; bytes = e }) }
+a-rest {held = held} wrote n l e = record { same = (refl, refl, refl, refl, refl); line = rw (ne-eqb held 0 n) (record { long = l; bytes = e }) }
 
 -- ---- a turn that reads
 
-module _ {next : ℕ} {r : Read} {written : List ℕ} (held : ℕ) where
-  pub fed-some : held < r .held → FedBy next held r written (record { next = next; held = r .held; made = 0; more = true; unread = r .failed; unwritten = false }) written
+module _ {st : Reading} {next : ℕ} {r : Read} {written : List ℕ} (held : ℕ) where
+  pub fed-some : held < r .held → FedBy st next held r written (record { next = next; held = r .held; made = 0; more = true; unread = r .failed; unwritten = false; reading = st }) written
   unfolding endLine
-  fed-some h = record { same = (refl, refl, refl); goes-on = sym (lt-ltb held (r .held) h); line = put-none written }
+  fed-some h = record { same = (refl, refl, refl, refl); goes-on = sym (lt-ltb held (r .held) h); line = put-none written }
 
   module _ (n : r .held ≤ held) where
-    pub fed-unread : {a : After} → r .failed ≡ true → a ≡ stoppedAt next (r .held) true → FedBy next held r written a written
+    pub fed-unread : {a : After} → r .failed ≡ true → a ≡ stoppedAt st next (r .held) true → FedBy st next held r written a written
     unfolding endLine
-    fed-unread f e = rw e (record { same = (refl, refl, sym f); goes-on = sym (le-ltb held (r .held) n); line = put-none written })
+    fed-unread f e = rw e (record { same = (refl, refl, sym f, refl); goes-on = sym (le-ltb held (r .held) n); line = put-none written })
 
-    pub fed-last : {a : After} {output : List ℕ} → r .failed ≡ false → Last next (r .held) written a output → FedBy next held r written a output
-    fed-last f l = record { same = (l .same .0, l .same .1, l .same .3 ∙ sym f); goes-on = l .same .2 ∙ sym (le-ltb held (r .held) n); line = l .line }
+    pub fed-last : {a : After} {output : List ℕ} → r .failed ≡ false → Last st next (r .held) written a output → FedBy st next held r written a output
+    fed-last f l = record { same = (l .same .0, l .same .1, l .same .3 ∙ sym f, l .same .4); goes-on = l .same .2 ∙ sym (le-ltb held (r .held) n); line = l .line }
 
 -- nothing was whole: the bytes wait in front of what was read
-pub waited : {n : ℕ} {r : Read} {a : After} {after written middle output : List ℕ} (held : ℕ) (before : List ℕ) → sizeOf (take held before) ≡ 0 → held < length before → middle ≡ written
-    → Fed held before r after → FedBy n held r middle a output → Turned n held before written a after output
-unfolding joined numberAfter allB
+pub waited : {st : Reading} {n : ℕ} {r : Read} {a : After} {after written middle output : List ℕ} (held : ℕ) (before : List ℕ) → sizeOf (take held before) ≡ 0 → held < length before → middle ≡ written
+    → Fed held before r after → FedBy st n held r middle a output → Turned st n held before written a after output
+unfolding joined numberAfter furtherAll allB
 waited {r = r} {a = a} {after = after} {output = output} held before z h o f t =
     let e = t .same .1 in
     record {
@@ -59,6 +61,7 @@ waited {r = r} {a = a} {after = after} {output = output} held before z h o f t =
       whole = refl;
       kept = ap (λ (k : ℕ). take held before ++ brought held k after) e ∙ read-behind held (r .held) before after (f .grows) (f .kept) ∙ ap (λ (k : ℕ). take k after) (sym e);
       number = t .same .0;
+      reading = t .same .3;
       lines = λ k. absurd (omega arith);
       reads =
           λ _. (
@@ -73,13 +76,13 @@ waited {r = r} {a = a} {after = after} {output = output} held before z h o f t =
 -- ---- a turn that makes lines
 
 -- what the turn gives where it made lines
-abbrev pub gone : ℕ → ℕ → ℕ → Bool → After
-gone next held made more = record { next = next; held = held; made = made; more = more; unread = false; unwritten = not more }
+abbrev pub gone : Reading → ℕ → ℕ → ℕ → Bool → After
+gone on next held made more = record { next = next; held = held; made = made; more = more; unread = false; unwritten = not more; reading = on }
 
 -- the lines of some replies were made, and the rest moved to the start
-module _ {n next taken made : ℕ} {written output after : List ℕ} (held : ℕ) (before : List ℕ) (more : Bool) (some : taken ≡ 0 → ⊥) (h : held ≤ length before)
-    (k : taken ≤ length (take held before)) (a : Lines n (take held before) next taken made written output) (e : after ≡ shifted before taken held) where
-  pub lined : Turned n held before written (gone next (held - taken) made more) after output
+module _ {st on : Reading} {n next taken made : ℕ} {written output after : List ℕ} (held : ℕ) (before : List ℕ) (more : Bool) (some : taken ≡ 0 → ⊥) (h : held ≤ length before)
+    (k : taken ≤ length (take held before)) (a : Lines st n (take held before) on next taken made written output) (e : after ≡ shifted before taken held) where
+  pub lined : Turned st n held before written (gone on next (held - taken) made more) after output
   lined =
       let w = within held before h k in
       let s = some-cut (a .read) (take held before) (a .cut) k some in
@@ -89,6 +92,7 @@ module _ {n next taken made : ℕ} {written output after : List ℕ} (held : ℕ
         whole = a .whole;
         kept = taken-off (joined (a .read)) held before h w (a .cut) e;
         number = a .number;
+        reading = a .reading;
         lines = λ _. (s, none-brought held (held - taken) after (omega arith), a .lines, sym (Bool·not-not more), refl);
         reads = λ z. absurd (omega arith);
         room = λ z. absurd (omega arith);

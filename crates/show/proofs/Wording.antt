@@ -13,6 +13,7 @@ use mir.Syntax.{w32}
 use Rattle.paper.specs.Numbers.{u8, u16, u32, bit, serialNos}
 use Rattle.paper.specs.Kinds.{configureKind, beginKind, listsKind, finishKind, drainKind, discardKind, endKind, abandonKind, replyOffset, replyTo, numberPlace, restPlace, wordWidth, begunFlags, begunSerial, begunCounts, begunMembers, flagsPlace, serialPlace, countsPlace, membersPlace, listsPlace}
 use Rattle.paper.specs.Records.{kindOf}
+use Rattle.paper.specs.declared.Reading.{Reading}
 use Rattle.paper.specs.Ledger.{readWords, readSerials, readTail, readSets, readBegun, readReply, setWords}
 use Rattle.paper.specs.WholeReply.{membersOf, wholeReply}
 use Rattle.show.specs.Text.{ascii, decimal, integer, serialText}
@@ -162,25 +163,25 @@ module _ (r : List ℕ) where
       (ap (λ (k : ℕ). serialNos (readSerials k (drop (4 * u8 r restPlace) (drop listsPlace r)))) (sym g) ∙ serials-at m r (8 + 4 * n) (ap (λ (k : ℕ). drop (4 * k) (drop listsPlace r)) (sym e) ∙ drop-drop (4 * n) 8 r))
 
   -- ---- each way to a text
-  pub said-damaged : wholeReply r ≡ false → saidText r ≡ damagedText r
+  pub said-damaged : (st : Reading) → wholeReply st r ≡ false → saidText st r ≡ damagedText r
   unfolding saidText
-  said-damaged e = simp e
+  said-damaged st e = simp e
 
-  module _ (w : wholeReply r ≡ true) where
-    pub said-refused : (u16 r numberPlace ≡ 0 → ⊥) → saidText r ≡ refusedText (kindOf r) (u16 r numberPlace)
+  module _ (st : Reading) (w : wholeReply st r ≡ true) where
+    pub said-refused : (u16 r numberPlace ≡ 0 → ⊥) → saidText st r ≡ refusedText (kindOf r) (u16 r numberPlace)
     unfolding saidText replyText readReply
     said-refused n = simp (w, ne-eqb (u16 r numberPlace) 0 n)
 
     module _ (z : u16 r numberPlace ≡ 0) where
-      pub said-begun : kindOf r ≡ replyTo beginKind → saidText r ≡ begunAt r
+      pub said-begun : kindOf r ≡ replyTo beginKind → saidText st r ≡ begunAt st r
       unfolding saidText replyText readReply
       said-begun e = simp (w, eq-eqb (u16 r numberPlace) 0 z, eq-eqb (kindOf r) (replyTo beginKind) e)
 
       module _ (n : kindOf r ≡ replyTo beginKind → ⊥) where
-        pub said-listed : kindOf r ≡ replyTo listsKind → saidText r ≡ listedText (readSerials (u8 r restPlace) (drop listsPlace r)) (readSerials (u8 r (restPlace + 1)) (drop (4 * u8 r restPlace) (drop listsPlace r)))
+        pub said-listed : kindOf r ≡ replyTo listsKind → saidText st r ≡ listedText (readSerials (u8 r restPlace) (drop listsPlace r)) (readSerials (u8 r (restPlace + 1)) (drop (4 * u8 r restPlace) (drop listsPlace r)))
         unfolding saidText replyText readReply
         said-listed e = simp (w, eq-eqb (u16 r numberPlace) 0 z, ne-eqb (kindOf r) (replyTo beginKind) n, eq-eqb (kindOf r) (replyTo listsKind) e)
 
-        pub said-done : (kindOf r ≡ replyTo listsKind → ⊥) → saidText r ≡ doneText (kindOf r - replyOffset) (readTail (drop restPlace r))
+        pub said-done : (kindOf r ≡ replyTo listsKind → ⊥) → saidText st r ≡ doneText (kindOf r - replyOffset) (readTail st (drop restPlace r))
         unfolding saidText replyText readReply
         said-done m = simp (w, eq-eqb (u16 r numberPlace) 0 z, ne-eqb (kindOf r) (replyTo beginKind) n, ne-eqb (kindOf r) (replyTo listsKind) m)

@@ -4,6 +4,7 @@ use mathlib.Core.List.{List, [], _∷_, _++_}
 use mathlib.Core.Bool.{Bool, cond}
 use lib.ListN.{length, getD, drop}
 use lib.Dec.{ltb}
+use Rattle.paper.specs.declared.Reading.{Reading}
 use Rattle.paper.specs.declared.Serial.{Serial}
 use Rattle.paper.specs.Numbers.{u8, serialNos}
 use Rattle.paper.specs.Kinds.{replyOffset, restPlace, wordWidth, begunMembers, flagsPlace}
@@ -80,18 +81,18 @@ replyText flags (Reply.Started b t) = toldText flags b ++ setsText (b .sets) ++ 
 replyText flags (Reply.Listed l0 l1) = listedText l0 l1
 
 -- an accepted begin, by its bytes
-abbrev pub begunAt : List ℕ → List ℕ
-begunAt bs = toldText (u8 bs flagsPlace) (readBegun (drop restPlace bs)) ++ setsText (readBegun (drop restPlace bs) .sets) ++ tailText (readTail (drop (wordWidth * setWords (drop restPlace bs)) (drop begunMembers (drop restPlace bs))))
+abbrev pub begunAt : Reading → List ℕ → List ℕ
+begunAt st bs = toldText (u8 bs flagsPlace) (readBegun (drop restPlace bs)) ++ setsText (readBegun (drop restPlace bs) .sets) ++ tailText (readTail st (drop (wordWidth * setWords (drop restPlace bs)) (drop begunMembers (drop restPlace bs))))
 
 unfoldable pub damagedText : List ℕ → List ℕ
 damagedText bs = ascii "damaged reply of " ++ decimal (length bs) ++ ascii " bytes, kind " ++ decimal (kindOf bs)
 
-unfoldable pub saidText : List ℕ → List ℕ
-saidText bs = cond (wholeReply bs) (replyText (u8 bs flagsPlace) (readReply bs)) (damagedText bs)
+unfoldable pub saidText : Reading → List ℕ → List ℕ
+saidText st bs = cond (wholeReply st bs) (replyText (u8 bs flagsPlace) (readReply st bs)) (damagedText bs)
 
--- The line of the reply that has this number in its stream
-unfoldable pub lineOf : ℕ → List ℕ → List ℕ
-lineOf number bs = decimal number ++ ascii " " ++ saidText bs ++ ascii "\n"
+-- The line of the reply that has this number in its stream, behind those that left this to its reader
+unfoldable pub lineOf : Reading → ℕ → List ℕ → List ℕ
+lineOf st number bs = decimal number ++ ascii " " ++ saidText st bs ++ ascii "\n"
 
 -- The line of n bytes at the end of a stream that are no whole reply
 unfoldable pub restOf : ℕ → ℕ → List ℕ

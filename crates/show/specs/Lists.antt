@@ -1,6 +1,7 @@
 -- Lists and tails as text: tools/records.py's form.
 use Prim.Native.Nat.{ℕ, _+_, _*_}
 use mathlib.Core.List.{List, [], _∷_, _++_}
+use Rattle.paper.specs.declared.Reading.{Reading}
 use Rattle.paper.specs.declared.Shown.{Shown}
 use Rattle.paper.specs.Words.{flat}
 use Rattle.paper.specs.Numbers.{u32, i32, aSerial, aSurface, serialNos, surfaceNos}
@@ -23,8 +24,8 @@ unfoldable pub shownText : Shown → List ℕ
 shownText p = decimal (p .serial .0) ++ ascii ":" ++ decimal (p .surface .0) ++ ascii ":" ++ integer (p .poc)
 
 -- the picture handed out that stands at a place of a reply
-abbrev pub shownAt : List ℕ → ℕ → Shown
-shownAt r at = record { serial = aSerial (u32 r at); surface = aSurface (u32 r (at + wordWidth)); poc = i32 r (at + 2 * wordWidth) }
+abbrev pub shownAt : Reading → List ℕ → ℕ → Shown
+shownAt st r at = record { serial = aSerial (u32 r at); surface = aSurface (u32 r (at + wordWidth)); poc = i32 r (at + 2 * wordWidth) }
 
 unfoldable pub tailText : Tail → List ℕ
 tailText t =

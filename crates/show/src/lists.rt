@@ -1,6 +1,9 @@
 // Lists of a reply, written into a lent buffer: the sets of a begin, reference lists, and the parts of a tail.
 use crate::text;
+use format::behind_shown;
 use format::kinds;
+use format::shown_width;
+use paper::Reading;
 ghost use Prim.Native.Nat.{_+_, _*_, _≤_, _<_};
 ghost use lib.ListN.{length, drop};
 ghost use Rattle.paper.specs.Words.{flat};
@@ -59,9 +62,9 @@ pub(crate) fn put_list(
 }
 
 // A picture handed out, "(serial u32, surface u32, POC i32)".
-fn put_shown(d: &mut [u8], at: usize, reply: &[u8], from: usize) -> usize
+fn put_shown(d: &mut [u8], at: usize, st: Reading, reply: &[u8], from: usize) -> usize
     requires { ⌜ (from ≤ 20000) × (at + 33 ≤ length (now d)) ⌝ }
-    ensures { λ r. ⌜ Wrote (now (d .entry)) at (shownText (shownAt (now (reply .entry)) from)) 33 r (now (d .exit)) ⌝ }
+    ensures { λ r. ⌜ Wrote (now (d .entry)) at (shownText (shownAt st (now (reply .entry)) from)) 33 r (now (d .exit)) ⌝ }
 {
     let a = text::put_u32(d, at, wire::u32_at(reply, from));
     let b = text::put(d, a, b":");
@@ -71,54 +74,64 @@ fn put_shown(d: &mut [u8], at: usize, reply: &[u8], from: usize) -> usize
 }
 
 // One more picture handed out, behind a comma.
-fn put_next_shown(d: &mut [u8], at: usize, reply: &[u8], from: usize) -> usize
+fn put_next_shown(d: &mut [u8], at: usize, st: Reading, reply: &[u8], from: usize) -> usize
     requires { ⌜ (from ≤ 20000) × (at + 34 ≤ length (now d)) ⌝ }
-    ensures { λ r. ⌜ Wrote (now (d .entry)) at (behindComma shownText (shownAt (now (reply .entry)) from)) 34 r
+    ensures { λ r. ⌜ Wrote (now (d .entry)) at (behindComma shownText (shownAt st (now (reply .entry)) from)) 34 r
         (now (d .exit)) ⌝ }
 {
     let a = text::put(d, at, b",");
-    put_shown(d, a, reply, from)
+    put_shown(d, a, st, reply, from)
 }
 
 // The n pictures from a place of the reply on, each behind a comma.
-fn put_more_shown(d: &mut [u8], at: usize, reply: &[u8], from: usize, n: usize) -> usize
+fn put_more_shown(
+    d: &mut [u8],
+    at: usize,
+    st: Reading,
+    reply: &[u8],
+    from: usize,
+    n: usize,
+) -> usize
     requires { ⌜ (n ≤ 255) × (from ≤ 10000) × (at + 34 * n ≤ length (now d)) ⌝ }
     ensures { λ r. ⌜ Wrote (now (d .entry)) at
-        (flat (behindComma shownText) (readShown n (drop from (now (reply .entry))))) (34 * n) r (now (d .exit)) ⌝ }
+        (flat (behindComma shownText) (readShown st n (drop from (now (reply .entry))))) (34 * n) r (now (d .exit)) ⌝ }
 {
+    let step = shown_width(st) as usize;
     let mut end = at;
+    let mut place = from;
     let mut i = 0;
     while i < n {
-        end = put_next_shown(d, end, reply, from + kinds::SHOWN * i);
+        end = put_next_shown(d, end, st, reply, place);
+        place += step;
         i += 1;
     }
     end
 }
 
 // The n pictures handed out; nothing where there are none.
-fn put_handed(d: &mut [u8], at: usize, reply: &[u8], from: usize, n: usize) -> usize
+fn put_handed(d: &mut [u8], at: usize, st: Reading, reply: &[u8], from: usize, n: usize) -> usize
     requires { ⌜ (n ≤ 255) × (from ≤ 9000) × (at + 8 + 34 * n ≤ length (now d)) ⌝ }
     ensures { λ r. ⌜ Wrote (now (d .entry)) at
-        (named (ascii " handed=") shownText (readShown n (drop from (now (reply .entry))))) (8 + 34 * n) r
+        (named (ascii " handed=") shownText (readShown st n (drop from (now (reply .entry))))) (8 + 34 * n) r
         (now (d .exit)) ⌝ }
 {
     if n == 0 {
         return at;
     }
     let a = text::put(d, at, b" handed=");
-    let b = put_shown(d, a, reply, from);
-    put_more_shown(d, b, reply, from + kinds::SHOWN, n - 1)
+    let b = put_shown(d, a, st, reply, from);
+    put_more_shown(d, b, st, reply, from + shown_width(st) as usize, n - 1)
 }
 
 // A tail: "u8 count and .. each picture handed out; u8 count and serials thrown away; u8 count and surfaces released".
-pub(crate) fn put_tail(d: &mut [u8], at: usize, reply: &[u8], from: usize) -> usize
+pub(crate) fn put_tail(d: &mut [u8], at: usize, st: Reading, reply: &[u8], from: usize) -> usize
     requires { ⌜ (from ≤ 6000) × (at + 14306 ≤ length (now d)) ⌝ }
-    ensures { λ r. ⌜ Wrote (now (d .entry)) at (tailText (readTail (drop from (now (reply .entry))))) 14306 r
+    ensures { λ r. ⌜ Wrote (now (d .entry)) at (tailText (readTail st (drop from (now (reply .entry))))) 14306 r
         (now (d .exit)) ⌝ }
 {
     let handed = wire::byte(reply, from) as usize;
-    let a = put_handed(d, at, reply, from + 1, handed);
-    let b = from + 1 + kinds::SHOWN * handed;
+    let a = put_handed(d, at, st, reply, from + 1, handed);
+    let b = behind_shown(st, reply, from);
     let thrown = wire::byte(reply, b) as usize;
     let c = put_list(d, a, b" thrown=", reply, b + 1, thrown, false);
     let e = b + 1 + kinds::WORD * thrown;

@@ -5,6 +5,7 @@ mod lists;
 mod replies;
 mod text;
 
+use paper::Reading;
 use stream::Read;
 ghost use mathlib.Core.Path.{_≡_};
 ghost use Prim.Native.Nat.{_+_, _-_, _≤_, _<_};
@@ -23,16 +24,17 @@ const OUTPUT: usize = 65536;
 // No line is longer: five sets, and three lists of a tail, of 255 each.
 const LINE: usize = 28457;
 
-// The number of the next reply, how many bytes were taken, and how many their lines have.
+// The number of the next reply, how many bytes were taken, how many their lines have, and what the reader carries on.
 struct Lined {
     next: u64,
     taken: usize,
     made: usize,
+    reading: Reading,
 }
 
 // The number of the next reply, how many bytes wait at the start of the input buffer, how many bytes of lines were
-// handed over to be written, whether the run goes on, and whether standard input could not be read or standard output
-// not be written.
+// handed over to be written, whether the run goes on, whether standard input could not be read or standard output not
+// be written, and what the reader of the replies carries to the next one.
 struct After {
     next: u64,
     held: usize,
@@ -40,6 +42,7 @@ struct After {
     more: bool,
     unread: bool,
     unwritten: bool,
+    reading: Reading,
 }
 
 // The number behind this one. It stays at the largest, which no stream reaches.
@@ -50,44 +53,56 @@ fn following(n: u64) -> u64
 }
 
 // The line of one reply, behind the `made` bytes of the earlier ones.
-fn line_at(number: u64, reply: &[u8], out: &mut [u8], made: usize) -> usize
+fn line_at(st: Reading, number: u64, reply: &[u8], out: &mut [u8], made: usize) -> usize
     requires { ⌜ made + 28457 ≤ length (now out) ⌝ }
-    ensures { λ r. ⌜ Added number (now (reply .entry)) made (now (out .entry)) r (now (out .exit)) ⌝ }
+    ensures { λ r. ⌜ Added st number (now (reply .entry)) made (now (out .entry)) r (now (out .exit)) ⌝ }
 {
-    replies::line(number, reply, &mut out[made..])
+    replies::line(st, number, reply, &mut out[made..])
 }
 
 // The lines of the whole replies at the start of these bytes, one after the other, while there is room for a line.
-fn lines(number: u64, bytes: &[u8], out: &mut [u8]) -> Lined
+fn lines(st: Reading, number: u64, bytes: &[u8], out: &mut [u8]) -> Lined
     ensures within { λ r. ⌜ (r .taken ≤ length (now (bytes .entry))) × (r .made ≤ length (now (out .exit))) ⌝ }
-    ensures lines { λ r. ⌜ Lines number (now (bytes .entry)) (r .next) (r .taken) (r .made) (now (out .entry))
-        (now (out .exit)) ⌝ }
+    ensures lines { λ r. ⌜ Lines st number (now (bytes .entry)) (r .reading) (r .next) (r .taken) (r .made)
+        (now (out .entry)) (now (out .exit)) ⌝ }
     ensures all { λ r. ⌜ (r .made + 28457 ≤ length (now (out .exit))
         → sizeOf (drop (r .taken) (now (bytes .entry))) ≡ 0) ⌝ }
 {
+    let mut reading = st;
     let mut next = number;
     let mut taken = 0;
     let mut made = 0;
     while made + LINE <= out.len() {
         let n = format::size(&bytes[taken..]);
         if n == 0 {
-            return Lined { next, taken, made };
+            return Lined {
+                next,
+                taken,
+                made,
+                reading,
+            };
         }
         let e = taken + n;
-        made += line_at(next, &bytes[taken..e], out, made);
+        made += line_at(reading, next, &bytes[taken..e], out, made);
+        reading = format::further(reading, &bytes[taken..e]);
         next = following(next);
         taken = e;
     }
-    Lined { next, taken, made }
+    Lined {
+        next,
+        taken,
+        made,
+        reading,
+    }
 }
 
 // The end of the input: the last line, for the `held` bytes that are no whole reply, or none where nothing waits.
-fn last(next: u64, held: usize, output: &mut [u8]) -> After
+fn last(st: Reading, next: u64, held: usize, output: &mut [u8]) -> After
     requires { ⌜ 28457 ≤ length (now output) ⌝ }
-    ensures { λ r. ⌜ Last next held (now (output .entry)) r (now (output .exit)) ⌝ }
+    ensures { λ r. ⌜ Last st next held (now (output .entry)) r (now (output .exit)) ⌝ }
 {
     if held == 0 {
-        return stopped(next, held, false);
+        return stopped(st, next, held, false);
     }
     let made = replies::rest(next, held, output);
     let wrote = io::write_all(1, &output[..made]);
@@ -98,12 +113,13 @@ fn last(next: u64, held: usize, output: &mut [u8]) -> After
         more: false,
         unread: false,
         unwritten: !wrote,
+        reading: st,
     }
 }
 
 // The run ends with nothing written.
-fn stopped(next: u64, held: usize, unread: bool) -> After
-    ensures { λ r. ⌜ r ≡ stoppedAt next held unread ⌝ }
+fn stopped(st: Reading, next: u64, held: usize, unread: bool) -> After
+    ensures { λ r. ⌜ r ≡ stoppedAt st next held unread ⌝ }
 {
     After {
         next,
@@ -112,14 +128,15 @@ fn stopped(next: u64, held: usize, unread: bool) -> After
         more: false,
         unread,
         unwritten: false,
+        reading: st,
     }
 }
 
 // What a turn gives that only read: the run goes on where something was read, and else ends, with the last line unless
 // the read failed.
-fn fed(next: u64, held: usize, r: Read, output: &mut [u8]) -> After
+fn fed(st: Reading, next: u64, held: usize, r: Read, output: &mut [u8]) -> After
     requires { ⌜ 28457 ≤ length (now output) ⌝ }
-    ensures { λ a. ⌜ FedBy next held r (now (output .entry)) a (now (output .exit)) ⌝ }
+    ensures { λ a. ⌜ FedBy st next held r (now (output .entry)) a (now (output .exit)) ⌝ }
 {
     let now = r.held;
     if held < now {
@@ -130,29 +147,31 @@ fn fed(next: u64, held: usize, r: Read, output: &mut [u8]) -> After
             more: true,
             unread: r.failed,
             unwritten: false,
+            reading: st,
         };
     }
     if r.failed {
-        return stopped(next, now, true);
+        return stopped(st, next, now, true);
     }
-    last(next, now, output)
+    last(st, next, now, output)
 }
 
 // Writes the lines of what is whole; reads on only where nothing is whole, so that no line waits for input.
-fn turn(next: u64, held: usize, input: &mut [u8], output: &mut [u8]) -> After
+fn turn(st: Reading, next: u64, held: usize, input: &mut [u8], output: &mut [u8]) -> After
     requires { ⌜ held ≤ length (now input) ⌝ }
     requires { ⌜ (65539 ≤ length (now input)) × (28457 ≤ length (now output)) ⌝ }
     ensures { λ r. ⌜ r .held ≤ length (now (input .exit)) ⌝ }
-    ensures turned { λ r. ⌜ Turned next held (now (input .entry)) (now (output .entry)) r (now (input .exit))
+    ensures turned { λ r. ⌜ Turned st next held (now (input .entry)) (now (output .entry)) r (now (input .exit))
         (now (output .exit)) ⌝ }
 {
-    let l = lines(next, &input[..held], output);
+    let l = lines(st, next, &input[..held], output);
     let taken = l.taken;
     if taken == 0 {
         let r = stream::read_on(0, held, input);
-        return fed(next, held, r, output);
+        return fed(st, next, held, r, output);
     }
     let made = l.made;
+    let reading = l.reading;
     let more = io::write_all(1, &output[..made]);
     stream::shift(input, taken, held);
     After {
@@ -162,6 +181,7 @@ fn turn(next: u64, held: usize, input: &mut [u8], output: &mut [u8]) -> After
         more,
         unread: false,
         unwritten: !more,
+        reading,
     }
 }
 
@@ -177,10 +197,12 @@ fn run(input: &mut [u8], output: &mut [u8]) -> After
         more: true,
         unread: false,
         unwritten: false,
+        reading: format::opening(),
     };
     let mut left: u64 = 18446744073709551615;
     while left > 0 {
-        t = turn(t.next, t.held, input, output);
+        let st = t.reading;
+        t = turn(st, t.next, t.held, input, output);
         if !t.more {
             return t;
         }

@@ -2,6 +2,7 @@
 use crate::lists;
 use crate::text;
 use format::kinds;
+use paper::Reading;
 use wire::flag_bytes;
 ghost use mathlib.Core.Path.{_≡_};
 ghost use Prim.Native.Nat.{_+_, _-_, _*_, _≤_};
@@ -75,15 +76,15 @@ fn put_refused(d: &mut [u8], at: usize, reply: &[u8]) -> usize
 }
 
 // An accepted record that has a tail alone.
-fn put_done(d: &mut [u8], at: usize, reply: &[u8]) -> usize
+fn put_done(d: &mut [u8], at: usize, st: Reading, reply: &[u8]) -> usize
     requires { ⌜ at + 14320 ≤ length (now d) ⌝ }
     ensures { λ r. ⌜ Wrote (now (d .entry)) at
-        (doneText (kindOf (now (reply .entry)) - replyOffset) (readTail (drop restPlace (now (reply .entry))))) 14320 r
-        (now (d .exit)) ⌝ }
+        (doneText (kindOf (now (reply .entry)) - replyOffset) (readTail st (drop restPlace (now (reply .entry))))) 14320
+        r (now (d .exit)) ⌝ }
 {
     let a = text::put(d, at, b"done ");
     let b = put_kind(d, a, wire::u16_at(reply, kinds::KIND_PLACE));
-    lists::put_tail(d, b, reply, kinds::REST_PLACE)
+    lists::put_tail(d, b, st, reply, kinds::REST_PLACE)
 }
 
 // The flags of a begun picture that are set, by name; the byte where spare bits are.
@@ -197,14 +198,14 @@ fn put_sets(d: &mut [u8], at: usize, reply: &[u8]) -> usize
 }
 
 // An accepted begin.
-fn put_begun(d: &mut [u8], at: usize, reply: &[u8]) -> usize
+fn put_begun(d: &mut [u8], at: usize, st: Reading, reply: &[u8]) -> usize
     requires { ⌜ at + 28435 ≤ length (now d) ⌝ }
-    ensures { λ r. ⌜ Wrote (now (d .entry)) at (begunAt (now (reply .entry))) 28435 r (now (d .exit)) ⌝ }
+    ensures { λ r. ⌜ Wrote (now (d .entry)) at (begunAt st (now (reply .entry))) 28435 r (now (d .exit)) ⌝ }
 {
     let from = kinds::MEMBERS_PLACE + kinds::WORD * format::members(reply);
     let a = put_told(d, at, reply);
     let b = put_sets(d, a, reply);
-    lists::put_tail(d, b, reply, from)
+    lists::put_tail(d, b, st, reply, from)
 }
 
 // Accepted lists: "two u8 lengths, the u32 serials".
@@ -243,11 +244,11 @@ fn put_damaged(d: &mut [u8], at: usize, reply: &[u8]) -> usize
 }
 
 // One reply, by its kind.
-fn put_reply(d: &mut [u8], at: usize, reply: &[u8]) -> usize
+fn put_reply(d: &mut [u8], at: usize, st: Reading, reply: &[u8]) -> usize
     requires { ⌜ at + 28435 ≤ length (now d) ⌝ }
-    ensures { λ r. ⌜ Wrote (now (d .entry)) at (saidText (now (reply .entry))) 28435 r (now (d .exit)) ⌝ }
+    ensures { λ r. ⌜ Wrote (now (d .entry)) at (saidText st (now (reply .entry))) 28435 r (now (d .exit)) ⌝ }
 {
-    if !format::is_whole(reply) {
+    if !format::is_whole(st, reply) {
         return put_damaged(d, at, reply);
     }
     if wire::u16_at(reply, kinds::NUMBER_PLACE) != 0 {
@@ -255,23 +256,23 @@ fn put_reply(d: &mut [u8], at: usize, reply: &[u8]) -> usize
     }
     let kind = wire::u16_at(reply, kinds::KIND_PLACE);
     if kind == kinds::BEGUN {
-        return put_begun(d, at, reply);
+        return put_begun(d, at, st, reply);
     }
     if kind == kinds::LISTED {
         return put_lists(d, at, reply);
     }
-    put_done(d, at, reply)
+    put_done(d, at, st, reply)
 }
 
 // The line of a reply: its number in the stream, then what it says.
-pub(crate) fn line(number: u64, reply: &[u8], out: &mut [u8]) -> usize
+pub(crate) fn line(st: Reading, number: u64, reply: &[u8], out: &mut [u8]) -> usize
     requires { ⌜ 28457 ≤ length (now out) ⌝ }
-    ensures { λ r. ⌜ (r ≡ length (lineOf number (now (reply .entry)))) × (r ≤ 28457)
-        × (now (out .exit) ≡ over (lineOf number (now (reply .entry))) (now (out .entry))) ⌝ }
+    ensures { λ r. ⌜ (r ≡ length (lineOf st number (now (reply .entry)))) × (r ≤ 28457)
+        × (now (out .exit) ≡ over (lineOf st number (now (reply .entry))) (now (out .entry))) ⌝ }
 {
     let a = text::put_u64(out, 0, number);
     let b = text::put(out, a, b" ");
-    let c = put_reply(out, b, reply);
+    let c = put_reply(out, b, st, reply);
     text::put(out, c, b"\n")
 }
 

@@ -12,6 +12,7 @@ use Rattle.paper.specs.Numbers.{u8, u32, aSerial}
 use Rattle.paper.specs.Kinds.{shownWidth}
 use Rattle.paper.specs.WholeReply.{thrownAt, releasedAt}
 use Rattle.paper.specs.Ledger.{readWords, readShown, readReleased, readTail, events, none}
+use Rattle.paper.specs.declared.Reading.{Reading}
 use Rattle.watch.specs.declared.events.Part.{Part}
 use Rattle.watch.specs.declared.events.Part.the-variants.{Handed, Thrown, Released}
 use Rattle.watch.specs.Events.{shownAt, eventAt, sizeOf, eventsOf, counted}
@@ -37,21 +38,21 @@ pub words-more : (m k : ℕ) (r : List ℕ) → readWords (suc m) (drop k r) ≡
 unfolding readWords
 words-more m k r = rw (u32-at k r, drop-drop 4 k r)
 
-shown-more : (m k : ℕ) (r : List ℕ) → readShown (suc m) (drop k r) ≡ shownAt r k ∷ readShown m (drop (k + 12) r)
+shown-more : (st : Reading) (m k : ℕ) (r : List ℕ) → readShown st (suc m) (drop k r) ≡ shownAt st r k ∷ readShown st m (drop (k + 12) r)
 unfolding readShown
-shown-more m k r = rw (u32-at k r, u32-drop k 4 r, u32-drop k 8 r, drop-drop 12 k r)
+shown-more st m k r = rw (u32-at k r, u32-drop k 4 r, u32-drop k 8 r, drop-drop 12 k r)
 
-pub events-more : (p : Part) (m k : ℕ) (r : List ℕ) → eventsOf p (suc m) (drop k r) ≡ eventAt p r k ∷ eventsOf p m (drop (k + sizeOf p) r)
+pub events-more : (st : Reading) (p : Part) (m k : ℕ) (r : List ℕ) → eventsOf st p (suc m) (drop k r) ≡ eventAt st p r k ∷ eventsOf st p m (drop (k + sizeOf st p) r)
 unfolding eventsOf eventAt sizeOf
-events-more Handed m k r = rw (shown-more m k r)
-events-more Thrown m k r = rw (words-more m k r)
-events-more Released m k r = rw (words-more m k r)
+events-more st Handed m k r = rw (shown-more st m k r)
+events-more st Thrown m k r = rw (words-more m k r)
+events-more st Released m k r = rw (words-more m k r)
 
-pub events-none : (p : Part) (bs : List ℕ) → eventsOf p 0 bs ≡ []
+pub events-none : (st : Reading) (p : Part) (bs : List ℕ) → eventsOf st p 0 bs ≡ []
 unfolding eventsOf readShown readWords
-events-none Handed bs = refl
-events-none Thrown bs = refl
-events-none Released bs = refl
+events-none st Handed bs = refl
+events-none st Thrown bs = refl
+events-none st Released bs = refl
 
 -- two runs of words
 pub words-append : (n m k : ℕ) (r : List ℕ) → readWords (n + m) (drop k r) ≡ readWords n (drop k r) ++ readWords m (drop (k + 4 * n) r)
@@ -70,10 +71,10 @@ words-append (suc n) m k r =
 
 -- ---- a tail, by its three parts
 
-pub tail-events : (at : ℕ) (r : List ℕ)
-    → events (readTail (drop at r)) ≡ counted Handed (drop at r) ++ (counted Thrown (drop (thrownAt shownWidth r at) r) ++ counted Released (drop (releasedAt shownWidth r at) r))
+pub tail-events : (st : Reading) (at : ℕ) (r : List ℕ)
+    → events (readTail st (drop at r)) ≡ counted st Handed (drop at r) ++ (counted st Thrown (drop (thrownAt shownWidth r at) r) ++ counted st Released (drop (releasedAt shownWidth r at) r))
 unfolding readTail readReleased counted eventsOf
-tail-events at r =
+tail-events st at r =
     let n = u8 r at in
     let m = u8 r (thrownAt shownWidth r at) in
     let a : u8 (drop at r) 0 ≡ n = u8-drop at r in
@@ -91,10 +92,10 @@ unfolding readWords
 length-words zero bs = refl
 length-words (suc n) bs = ap suc (length-words n (drop 4 bs))
 
-length-shown : (n : ℕ) (bs : List ℕ) → length (readShown n bs) ≡ n
+length-shown : (st : Reading) (n : ℕ) (bs : List ℕ) → length (readShown st n bs) ≡ n
 unfolding readShown
-length-shown zero bs = refl
-length-shown (suc n) bs = ap suc (length-shown n (drop 12 bs))
+length-shown st zero bs = refl
+length-shown st (suc n) bs = ap suc (length-shown st n (drop 12 bs))
 
 not-none : (n : ℕ) → eqb (suc n) 0 ≡ false
 not-none n = let h : suc n ≡ 0 → ⊥ = omega arith in ne-eqb (suc n) 0 h
@@ -104,43 +105,43 @@ unfolding readWords none
 none-words f zero bs = refl
 none-words f (suc n) bs = sym (not-none n)
 
-none-shown : (n : ℕ) (bs : List ℕ) → none (readShown n bs) ≡ eqb n 0
+none-shown : (st : Reading) (n : ℕ) (bs : List ℕ) → none (readShown st n bs) ≡ eqb n 0
 unfolding readShown none
-none-shown zero bs = refl
-none-shown (suc n) bs = sym (not-none n)
+none-shown st zero bs = refl
+none-shown st (suc n) bs = sym (not-none n)
 
-none-events : (p : Part) (n : ℕ) (bs : List ℕ) → none (eventsOf p n bs) ≡ eqb n 0
+none-events : (st : Reading) (p : Part) (n : ℕ) (bs : List ℕ) → none (eventsOf st p n bs) ≡ eqb n 0
 unfolding eventsOf readShown readWords none
-none-events Handed zero bs = refl
-none-events Handed (suc n) bs = sym (not-none n)
-none-events Thrown zero bs = refl
-none-events Thrown (suc n) bs = sym (not-none n)
-none-events Released zero bs = refl
-none-events Released (suc n) bs = sym (not-none n)
+none-events st Handed zero bs = refl
+none-events st Handed (suc n) bs = sym (not-none n)
+none-events st Thrown zero bs = refl
+none-events st Thrown (suc n) bs = sym (not-none n)
+none-events st Released zero bs = refl
+none-events st Released (suc n) bs = sym (not-none n)
 
-none-counted : (p : Part) (k : ℕ) (r : List ℕ) → none (counted p (drop k r)) ≡ eqb (u8 r k) 0
+none-counted : (st : Reading) (p : Part) (k : ℕ) (r : List ℕ) → none (counted st p (drop k r)) ≡ eqb (u8 r k) 0
 unfolding counted
-none-counted p k r = none-events p (u8 (drop k r) 0) (drop 1 (drop k r)) ∙ ap (λ (n : ℕ). eqb n 0) (u8-drop k r)
+none-counted st p k r = none-events st p (u8 (drop k r) 0) (drop 1 (drop k r)) ∙ ap (λ (n : ℕ). eqb n 0) (u8-drop k r)
 
 none-append : {A : Type 0} (xs ys : List A) → none (xs ++ ys) ≡ (none xs && none ys)
 unfolding none
 none-append [] ys = refl
 none-append (x ∷ xs) ys = refl
 
-pub counted-is : (p : Part) (k : ℕ) (r : List ℕ) → counted p (drop k r) ≡ eventsOf p (u8 r k) (drop (k + 1) r)
+pub counted-is : (st : Reading) (p : Part) (k : ℕ) (r : List ℕ) → counted st p (drop k r) ≡ eventsOf st p (u8 r k) (drop (k + 1) r)
 unfolding counted
-counted-is p k r = rw (u8-drop k r, drop-drop 1 k r)
+counted-is st p k r = rw (u8-drop k r, drop-drop 1 k r)
 
-module _ (at : ℕ) (r : List ℕ) where
-  pub quiet-tail : none (events (readTail (drop at r))) ≡ (eqb (u8 r at) 0 && (eqb (u8 r (thrownAt shownWidth r at)) 0 && eqb (u8 r (releasedAt shownWidth r at)) 0))
+module _ (st : Reading) (at : ℕ) (r : List ℕ) where
+  pub quiet-tail : none (events (readTail st (drop at r))) ≡ (eqb (u8 r at) 0 && (eqb (u8 r (thrownAt shownWidth r at)) 0 && eqb (u8 r (releasedAt shownWidth r at)) 0))
   quiet-tail =
-      let x = counted Handed (drop at r) in
-      let y = counted Thrown (drop (thrownAt shownWidth r at) r) in
-      let z = counted Released (drop (releasedAt shownWidth r at) r) in
-      rw (tail-events at r, none-append x (y ++ z), none-append y z, none-counted Handed at r, none-counted Thrown (thrownAt shownWidth r at) r, none-counted Released (releasedAt shownWidth r at) r)
+      let x = counted st Handed (drop at r) in
+      let y = counted st Thrown (drop (thrownAt shownWidth r at) r) in
+      let z = counted st Released (drop (releasedAt shownWidth r at) r) in
+      rw (tail-events st at r, none-append x (y ++ z), none-append y z, none-counted st Handed at r, none-counted st Thrown (thrownAt shownWidth r at) r, none-counted st Released (releasedAt shownWidth r at) r)
 
   -- the serials thrown away stand behind the second count
-  thrown-is : readTail (drop at r) .thrown ≡ map aSerial (readWords (u8 r (thrownAt shownWidth r at)) (drop (thrownAt shownWidth r at + 1) r))
+  thrown-is : readTail st (drop at r) .thrown ≡ map aSerial (readWords (u8 r (thrownAt shownWidth r at)) (drop (thrownAt shownWidth r at + 1) r))
   unfolding readTail readReleased
   thrown-is =
       let n = u8 r at in
@@ -149,16 +150,16 @@ module _ (at : ℕ) (r : List ℕ) where
       let b : drop (shownWidth * n) (drop 1 (drop at r)) ≡ drop (thrownAt shownWidth r at) r = drop-drop (shownWidth * n) 1 (drop at r) ∙ drop-drop (1 + shownWidth * n) at r ∙ ap (λ (k : ℕ). drop k r) g in
       rw (a, b, u8-drop (thrownAt shownWidth r at) r, drop-drop 1 (thrownAt shownWidth r at) r)
 
-  pub none-thrown : none (readTail (drop at r) .thrown) ≡ eqb (u8 r (thrownAt shownWidth r at)) 0
+  pub none-thrown : none (readTail st (drop at r) .thrown) ≡ eqb (u8 r (thrownAt shownWidth r at)) 0
   none-thrown = rw thrown-is (none-words aSerial (u8 r (thrownAt shownWidth r at)) (drop (thrownAt shownWidth r at + 1) r))
 
-  pub none-handed : none (readTail (drop at r) .handed) ≡ eqb (u8 r at) 0
+  pub none-handed : none (readTail st (drop at r) .handed) ≡ eqb (u8 r at) 0
   unfolding readTail
-  none-handed = none-shown (u8 (drop at r) 0) (drop 1 (drop at r)) ∙ ap (λ (n : ℕ). eqb n 0) (u8-drop at r)
+  none-handed = none-shown st (u8 (drop at r) 0) (drop 1 (drop at r)) ∙ ap (λ (n : ℕ). eqb n 0) (u8-drop at r)
 
-  pub thrown-count : length (readTail (drop at r) .thrown) ≡ u8 r (thrownAt shownWidth r at)
+  pub thrown-count : length (readTail st (drop at r) .thrown) ≡ u8 r (thrownAt shownWidth r at)
   thrown-count = rw thrown-is (length-map (readWords (u8 r (thrownAt shownWidth r at)) (drop (thrownAt shownWidth r at + 1) r)) aSerial ∙ length-words (u8 r (thrownAt shownWidth r at)) (drop (thrownAt shownWidth r at + 1) r))
 
-  pub handed-count : length (readTail (drop at r) .handed) ≡ u8 r at
+  pub handed-count : length (readTail st (drop at r) .handed) ≡ u8 r at
   unfolding readTail
-  handed-count = length-shown (u8 (drop at r) 0) (drop 1 (drop at r)) ∙ u8-drop at r
+  handed-count = length-shown st (u8 (drop at r) 0) (drop 1 (drop at r)) ∙ u8-drop at r

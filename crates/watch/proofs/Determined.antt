@@ -1,6 +1,6 @@
 -- What the contracts come to: the result of `hear` is determined whole, and its book is the paper's ledger.
 use Prim.Native.Nat.{ℕ, min}
-use mathlib.Core.Path.{_≡_, refl, sym, ap, _∙_}
+use mathlib.Core.Path.{_≡_, refl, sym, ap, subst, subst₂, _∙_}
 use mathlib.Core.Bool.{true}
 use mathlib.Core.List.{List}
 use native.Mathlib.Omega.{arith}
@@ -8,6 +8,8 @@ use lib.Dec.{eqb}
 use borrow.Author.Tests.{eqb-true, eqb-false}
 use Rattle.derivation.specs.Pad.{used}
 use Rattle.derivation.proofs.Pad.{is-view}
+use Rattle.paper.specs.declared.Reading.{Reading}
+use Rattle.paper.specs.Reading.{opening}
 use Rattle.paper.specs.Ledger.{Ledger, blank}
 use Rattle.paper.specs.Watch.{partOf}
 use Rattle.paper.proofs.Bools.{split}
@@ -25,34 +27,39 @@ one-slot Idle (Is f) e = absurd (let z : _≡_ {A = ℕ} 0 1 = cc in omega arith
 one-slot (Is f) Idle e = absurd (let z : _≡_ {A = ℕ} 0 1 = cc in omega arith)
 one-slot (Is f) (Is g) e = let z : f ≡ g = cc in ap Is z
 
--- a book in normal form is determined by its ledger and its tally
-pub one-book : {b c : Book} {L : Ledger} {t : Tally} → HoldsBook b L t → HoldsBook c L t → b ≡ c
+-- the same of equals
+pub also : {b : Book} {st st′ : Reading} {L L′ : Ledger} {t t′ : Tally} → st ≡ st′ → L ≡ L′ → t ≡ t′ → HoldsBook b st L t → HoldsBook b st′ L′ t′
+also {b} {st} {st′} {L} {L′} {t} {t′} p q r h = subst (λ (x : Reading). HoldsBook b x L′ t′) p (subst₂ (HoldsBook b st) q r h)
+
+-- a book in normal form is determined by its ledger, its tally and its reading
+pub one-book : {b c : Book} {st : Reading} {L : Ledger} {t : Tally} → HoldsBook b st L t → HoldsBook c st L t → b ≡ c
 one-book {b} {c} h g =
     let p = h .held .places ∙ sym (g .held .places) in
     let n = h .held .long ∙ sym (g .held .long) in
     let s = one-slot (b .current) (c .current) (h .current ∙ sym (g .current)) in
     let m = h .begun ∙ sym (g .begun) in
     let t = h .tally ∙ sym (g .tally) in
-    λ i. record { held = record { items = p i; len = n i }; current = s i; begun = m i; tally = t i }
+    let r = h .reading ∙ sym (g .reading) in
+    λ i. record { held = record { items = p i; len = n i }; current = s i; begun = m i; tally = t i; reading = r i }
 
 -- Any two results that the contract of `hear` permits are equal
 pub determined : {b : Book} {r a : List ℕ} {h k : Heard} → Hears b r a h → Hears b r a k → h ≡ k
 determined {b} {r} {a} {h} {k} x y =
     let n = x .part ∙ sym (y .part) in
     let m : h .book ≡ k .book =
-    split (eqb (partOf (bookIn b) r a) 0)
-    (λ e. let z = eqb-true (partOf (bookIn b) r a) 0 e in one-book (x .kept z) (y .kept z))
-    (λ e. let z = eqb-false (partOf (bookIn b) r a) 0 e in x .broken z ∙ sym (y .broken z)) in
+    split (eqb (partOf (b .reading) (bookIn b) r a) 0)
+    (λ e. let z = eqb-true (partOf (b .reading) (bookIn b) r a) 0 e in one-book (x .kept z) (y .kept z))
+    (λ e. let z = eqb-false (partOf (b .reading) (bookIn b) r a) 0 e in x .broken z ∙ sym (y .broken z)) in
     λ i. record { part = n i; book = m i }
 
 -- a book in normal form holds at most 16 lines, so nothing is cut off
-pub whole-view : {b : Book} {L : Ledger} {t : Tally} → HoldsBook b L t → view (clamped (b .held)) ≡ L .held
+pub whole-view : {b : Book} {st : Reading} {L : Ledger} {t : Tally} → HoldsBook b st L t → view (clamped (b .held)) ≡ L .held
 whole-view {b} h = let e : min (b .held .len) 16 ≡ b .held .len = omega (arith, h .few) in ap (λ (n : ℕ). used n (b .held .items)) e ∙ is-view (h .held)
 
 -- and is the ledger, where all was in order
-pub book-is : {b : Book} {L : Ledger} {t : Tally} → HoldsBook b L t → L .ok ≡ true → bookIn b ≡ L
+pub book-is : {b : Book} {st : Reading} {L : Ledger} {t : Tally} → HoldsBook b st L t → L .ok ≡ true → bookIn b ≡ L
 book-is h o = let p = whole-view h in λ i. record { held = p i; current = h .current i; begun = h .begun i; ok = sym o i }
 
 -- a new book is the blank ledger
-pub new-is-blank : {b : Book} → HoldsBook b blank noTally → bookIn b ≡ blank
+pub new-is-blank : {b : Book} → HoldsBook b opening blank noTally → bookIn b ≡ blank
 new-is-blank h = book-is h refl

@@ -1,6 +1,6 @@
 -- Exchange after exchange: one more is heard as `watched` hears it.
 use Prim.Native.Nat.{ℕ, suc, _+_, _-_, _<_}
-use mathlib.Core.Path.{_≡_, refl, sym, ap, subst, subst₂, _∙_}
+use mathlib.Core.Path.{_≡_, refl, sym, ap, ap₂, subst, _∙_}
 use mathlib.Core.Bool.{true}
 use mathlib.Core.List.{List, [], _∷_, _++_}
 use native.Mathlib.Omega.{arith}
@@ -9,11 +9,14 @@ use lib.Seq.{take-append-le, take-all}
 use lib.Dec.{eqb}
 use borrow.Author.Tests.{eqb-false, ne-eqb}
 use Rattle.paper.specs.Words.{allB, first}
+use Rattle.paper.specs.declared.Reading.{Reading}
+use Rattle.paper.specs.Reading.{further, furtherAll}
 use Rattle.paper.specs.Kinds.{endKind, abandonKind}
 use Rattle.paper.specs.Replies.{Reply}
 use Rattle.paper.specs.Ledger.{Ledger, tell, hear, readReply}
 use Rattle.paper.specs.Watch.{Verdict, replyPart, partOf, watched}
 use Rattle.paper.proofs.Bools.{split}
+use Rattle.paper.proofs.Again.{further-more}
 use Rattle.watch.specs.declared.Tally.{Tally}
 use Rattle.watch.specs.declared.Book.{Book}
 use Rattle.watch.specs.declared.Heard.{Heard}
@@ -21,7 +24,7 @@ use Rattle.watch.specs.Book.{Holds, bookIn, HoldsBook, tallied}
 use Rattle.watch.specs.Hears.{Hears}
 use Rattle.format.specs.Cut.{sizeOf, isWhole, joined}
 use Rattle.watch.specs.Pairs.{tallyAll, IsLedger, Watches}
-use Rattle.watch.proofs.Determined.{whole-view}
+use Rattle.watch.proofs.Determined.{also, whole-view}
 use Rattle.format.proofs.Cutting.{taken-more, whole-more}
 
 -- ---- nothing that is judged looks at `ok`
@@ -58,18 +61,18 @@ begun-order L r (Reply.Started b t) = refl
 begun-order L r (Reply.Listed l0 l1) = refl
 
 -- a book in normal form is its ledger
-pub is-ledger : {b : Book} {L : Ledger} {t : Tally} → HoldsBook b L t → IsLedger b L
+pub is-ledger : {b : Book} {st : Reading} {L : Ledger} {t : Tally} → HoldsBook b st L t → IsLedger b L
 is-ledger h = record { held = whole-view h; current = h .current; begun = h .begun }
 
 module _ {b : Book} {L : Ledger} (h : IsLedger b L) where
   pub same-book : bookIn b ≡ inOrder L
   same-book = λ i. record { held = h .held i; current = h .current i; begun = h .begun i; ok = true }
 
-  pub same-part : (r a : List ℕ) → partOf (bookIn b) r a ≡ partOf L r a
+  pub same-part : (st : Reading) (r a : List ℕ) → partOf st (bookIn b) r a ≡ partOf st L r a
   unfolding partOf first
-  same-part r a = let e : replyPart (bookIn b) r (readReply a) ≡ replyPart L r (readReply a) = ap (λ (K : Ledger). replyPart K r (readReply a)) same-book ∙ part-order L r (readReply a) in rw e
+  same-part st r a = let e : replyPart (bookIn b) r (readReply st a) ≡ replyPart L r (readReply st a) = ap (λ (K : Ledger). replyPart K r (readReply st a)) same-book ∙ part-order L r (readReply st a) in rw e
 
-  pub next-normal : {k : Book} {t : Tally} (r : List ℕ) (x : Reply) → HoldsBook k (hear (bookIn b) r x) t → HoldsBook k (hear L r x) t
+  pub next-normal : {k : Book} {st : Reading} {t : Tally} (r : List ℕ) (x : Reply) → HoldsBook k st (hear (bookIn b) r x) t → HoldsBook k st (hear L r x) t
   next-normal {k} r x g =
       record {
         held = subst (Holds (k .held)) (ap (λ (K : Ledger). tell K r x .held) same-book ∙ held-order L r x) (g .held);
@@ -77,6 +80,7 @@ module _ {b : Book} {L : Ledger} (h : IsLedger b L) where
         current = g .current ∙ ap (λ (K : Ledger). tell K r x .current) same-book ∙ current-order L r x;
         begun = g .begun ∙ ap (λ (K : Ledger). tell K r x .begun) same-book ∙ begun-order L r x;
         tally = g .tally;
+        reading = g .reading;
       }
 
 -- ---- one exchange more
@@ -84,54 +88,54 @@ module _ {b : Book} {L : Ledger} (h : IsLedger b L) where
 abbrev breaks : ℕ → ℕ → Ledger → Verdict
 breaks n p L = record { at = n; part = p; ledger = L }
 
-pub watched-more : (n : ℕ) (L : Ledger) (rs answers qs bs : List (List ℕ)) → watched n L rs answers .part ≡ 0
-    → watched n L (rs ++ qs) (answers ++ bs) ≡ watched (watched n L rs answers .at) (watched n L rs answers .ledger) qs bs
-unfolding watched
-watched-more n L [] [] qs bs z = refl
-watched-more n L (r ∷ rs) [] qs bs z = absurd (omega arith)
-watched-more n L [] (a ∷ answers) qs bs z = absurd (omega arith)
-watched-more n L (r ∷ rs) (a ∷ answers) qs bs z =
-    split (eqb (partOf L r a) 0)
+pub watched-more : (st : Reading) (n : ℕ) (L : Ledger) (rs answers qs bs : List (List ℕ)) → watched st n L rs answers .part ≡ 0
+    → watched st n L (rs ++ qs) (answers ++ bs) ≡ watched (furtherAll st answers) (watched st n L rs answers .at) (watched st n L rs answers .ledger) qs bs
+unfolding watched furtherAll
+watched-more st n L [] [] qs bs z = refl
+watched-more st n L (r ∷ rs) [] qs bs z = absurd (omega arith)
+watched-more st n L [] (a ∷ answers) qs bs z = absurd (omega arith)
+watched-more st n L (r ∷ rs) (a ∷ answers) qs bs z =
+    split (eqb (partOf st L r a) 0)
     (λ e.
-    let w : watched (n + 1) (hear L r (readReply a)) rs answers .part ≡ 0 = rw e at z in
-    rw e (watched-more (n + 1) (hear L r (readReply a)) rs answers qs bs w))
-    (λ e. absurd (eqb-false (partOf L r a) 0 e (rw e at z)))
+    let w : watched (further st a) (n + 1) (hear L r (readReply st a)) rs answers .part ≡ 0 = rw e at z in
+    rw e (watched-more (further st a) (n + 1) (hear L r (readReply st a)) rs answers qs bs w))
+    (λ e. absurd (eqb-false (partOf st L r a) 0 e (rw e at z)))
 
-one-right : (n : ℕ) (L : Ledger) (r a : List ℕ) → partOf L r a ≡ 0 → watched n L (r ∷ []) (a ∷ []) ≡ breaks (n + 1) 0 (hear L r (readReply a))
+one-right : (st : Reading) (n : ℕ) (L : Ledger) (r a : List ℕ) → partOf st L r a ≡ 0 → watched st n L (r ∷ []) (a ∷ []) ≡ breaks (n + 1) 0 (hear L r (readReply st a))
 unfolding watched
-one-right n L r a z = rw z
+one-right st n L r a z = rw z
 
-one-wrong : (n : ℕ) (L : Ledger) (r a : List ℕ) → (partOf L r a ≡ 0 → ⊥) → watched n L (r ∷ []) (a ∷ []) ≡ breaks n (partOf L r a) L
+one-wrong : (st : Reading) (n : ℕ) (L : Ledger) (r a : List ℕ) → (partOf st L r a ≡ 0 → ⊥) → watched st n L (r ∷ []) (a ∷ []) ≡ breaks n (partOf st L r a) L
 unfolding watched
-one-wrong n L r a z = rw (ne-eqb (partOf L r a) 0 z)
+one-wrong st n L r a z = rw (ne-eqb (partOf st L r a) 0 z)
 
-pub tally-append : (t : Tally) (answers bs : List (List ℕ)) → tallyAll t (answers ++ bs) ≡ tallyAll (tallyAll t answers) bs
-unfolding tallyAll
-tally-append t [] bs = refl
-tally-append t (a ∷ answers) bs = tally-append (tallied t (readReply a)) answers bs
+pub tally-append : (st : Reading) (t : Tally) (answers bs : List (List ℕ)) → tallyAll st t (answers ++ bs) ≡ tallyAll (furtherAll st answers) (tallyAll st t answers) bs
+unfolding tallyAll furtherAll
+tally-append st t [] bs = refl
+tally-append st t (a ∷ answers) bs = tally-append (further st a) (tallied t (readReply st a)) answers bs
 
-tally-more : (t : Tally) (answers : List (List ℕ)) (a : List ℕ) → tallyAll t (answers ++ (a ∷ [])) ≡ tallied (tallyAll t answers) (readReply a)
+tally-more : (st : Reading) (t : Tally) (answers : List (List ℕ)) (a : List ℕ) → tallyAll st t (answers ++ (a ∷ [])) ≡ tallied (tallyAll st t answers) (readReply (furtherAll st answers) a)
 unfolding tallyAll
-tally-more t answers a = tally-append t answers (a ∷ [])
+tally-more st t answers a = tally-append st t answers (a ∷ [])
 
 even-more : (rs qs : List (List ℕ)) (r q : List ℕ) → length rs ≡ length qs → length (rs ++ (r ∷ [])) ≡ length (qs ++ (q ∷ []))
 even-more rs qs r q e = let a = length-append rs (r ∷ []) in let b = length-append qs (q ∷ []) in omega arith
 
 -- where nothing breaks there are as many records as replies, and the place is behind them
-pub watched-even : (n : ℕ) (L : Ledger) (rs answers : List (List ℕ)) → watched n L rs answers .part ≡ 0 → (length rs ≡ length answers) × (watched n L rs answers .at ≡ n + length answers)
+pub watched-even : (st : Reading) (n : ℕ) (L : Ledger) (rs answers : List (List ℕ)) → watched st n L rs answers .part ≡ 0 → (length rs ≡ length answers) × (watched st n L rs answers .at ≡ n + length answers)
 unfolding watched
-watched-even n L [] [] z = (refl, omega arith)
-watched-even n L (r ∷ rs) [] z = absurd (omega arith)
-watched-even n L [] (a ∷ answers) z = absurd (omega arith)
-watched-even n L (r ∷ rs) (a ∷ answers) z =
-    split (eqb (partOf L r a) 0)
+watched-even st n L [] [] z = (refl, omega arith)
+watched-even st n L (r ∷ rs) [] z = absurd (omega arith)
+watched-even st n L [] (a ∷ answers) z = absurd (omega arith)
+watched-even st n L (r ∷ rs) (a ∷ answers) z =
+    split (eqb (partOf st L r a) 0)
     (λ e.
-    let k = watched-even (n + 1) (hear L r (readReply a)) rs answers (rw e at z) in
+    let k = watched-even (further st a) (n + 1) (hear L r (readReply st a)) rs answers (rw e at z) in
     rw e (ap suc (k .0), omega (arith, k .1)))
-    (λ e. absurd (eqb-false (partOf L r a) 0 e (rw e at z)))
+    (λ e. absurd (eqb-false (partOf st L r a) 0 e (rw e at z)))
 
 pub nothing-heard : (b : Book) (records replies : List ℕ) → Watches b records replies (record { book = b; taken = 0; answered = 0; pairs = 0; part = 0 })
-unfolding joined watched allB tallyAll
+unfolding joined watched allB tallyAll furtherAll
 nothing-heard b records replies =
     record {
       said = [];
@@ -145,6 +149,7 @@ nothing-heard b records replies =
       pairs = refl;
       ledger = record { held = refl; current = refl; begun = refl };
       tally = refl;
+      reading = refl;
       same = λ _. refl;
       normal = λ h. absurd (omega arith);
       last = λ z. absurd (z refl);
@@ -166,16 +171,26 @@ module _ {b k : Book} {records replies : List ℕ} (taken answered pairs n m : �
       let q : answered + m - answered ≡ m = omega arith in
       rw (p, q) at d
 
+  -- what the book reads the next reply with
+  abbrev carried : Reading
+  carried = furtherAll (b .reading) (g .answers)
+
   before : Verdict
-  before = watched 0 (bookIn b) (g .said) (g .answers)
+  before = watched (b .reading) 0 (bookIn b) (g .said) (g .answers)
 
-  goes-on : watched 0 (bookIn b) (g .said ++ (rec ∷ [])) (g .answers ++ (ans ∷ [])) ≡ watched (before .at) (before .ledger) (rec ∷ []) (ans ∷ [])
+  goes-on : watched (b .reading) 0 (bookIn b) (g .said ++ (rec ∷ [])) (g .answers ++ (ans ∷ [])) ≡ watched carried (before .at) (before .ledger) (rec ∷ []) (ans ∷ [])
   unfolding before
-  goes-on = watched-more 0 (bookIn b) (g .said) (g .answers) (rec ∷ []) (ans ∷ []) (sym (g .part))
+  goes-on = watched-more (b .reading) 0 (bookIn b) (g .said) (g .answers) (rec ∷ []) (ans ∷ []) (sym (g .part))
 
-  its-part : x .part ≡ partOf (before .ledger) rec ans
+  all : pairs ≡ length (g .answers)
+  all = let k = watched-even (b .reading) 0 (bookIn b) (g .said) (g .answers) (sym (g .part)) in omega (arith, k .1, g .pairs)
+
+  reads : k .reading ≡ carried
+  reads = g .reading ∙ ap (furtherAll (b .reading)) (take-all pairs (g .answers) (let e = all in omega arith))
+
+  its-part : x .part ≡ partOf carried (before .ledger) rec ans
   unfolding before
-  its-part = now-hears .part ∙ same-part (g .ledger) rec ans
+  its-part = now-hears .part ∙ same-part (g .ledger) (k .reading) rec ans ∙ ap (λ (st : Reading). partOf st (before .ledger) rec ans) reads
 
   said-cut : take (taken + n) records ≡ joined (g .said ++ (rec ∷ []))
   unfolding rec
@@ -196,11 +211,8 @@ module _ {b k : Book} {records replies : List ℕ} (taken answered pairs n m : �
   evenly : length (g .said ++ (rec ∷ [])) ≡ length (g .answers ++ (ans ∷ []))
   evenly = even-more (g .said) (g .answers) rec ans (g .even)
 
-  all : pairs ≡ length (g .answers)
-  all = let k = watched-even 0 (bookIn b) (g .said) (g .answers) (sym (g .part)) in omega (arith, k .1, g .pairs)
-
-  counts : k .tally ≡ tallyAll (b .tally) (g .answers)
-  counts = g .tally ∙ ap (tallyAll (b .tally)) (take-all pairs (g .answers) (let e = all in omega arith))
+  counts : k .tally ≡ tallyAll (b .reading) (b .tally) (g .answers)
+  counts = g .tally ∙ ap (tallyAll (b .reading) (b .tally)) (take-all pairs (g .answers) (let e = all in omega arith))
 
   one-longer : length (g .answers ++ (ans ∷ [])) ≡ pairs + 1
   one-longer = let e = all in let n = length-append (g .answers) (ans ∷ []) in omega arith
@@ -208,10 +220,12 @@ module _ {b k : Book} {records replies : List ℕ} (taken answered pairs n m : �
   pub heard-wrong : (x .part ≡ 0 → ⊥) → Watches b records replies (record { book = k; taken = taken + n; answered = answered + m; pairs = pairs; part = x .part })
   unfolding before
   heard-wrong z =
-      let w : partOf (before .ledger) rec ans ≡ 0 → ⊥ = λ y. z (its-part ∙ y) in
-      let v = goes-on ∙ one-wrong (before .at) (before .ledger) rec ans w in
+      let w : partOf carried (before .ledger) rec ans ≡ 0 → ⊥ = λ y. z (its-part ∙ y) in
+      let v = goes-on ∙ one-wrong carried (before .at) (before .ledger) rec ans w in
       let l = sym (ap (λ (y : Verdict). y .ledger) v) in
-      let t = ap (tallyAll (b .tally)) (sym (take-append-le pairs (g .answers) (ans ∷ []) (let y = all in omega arith))) in
+      let q = sym (take-append-le pairs (g .answers) (ans ∷ []) (let y = all in omega arith)) in
+      let t = ap (tallyAll (b .reading) (b .tally)) q in
+      let s = ap (furtherAll (b .reading)) q in
       record {
         said = g .said ++ (rec ∷ []);
         answers = g .answers ++ (ans ∷ []);
@@ -224,21 +238,28 @@ module _ {b k : Book} {records replies : List ℕ} (taken answered pairs n m : �
         pairs = g .pairs ∙ sym (ap (λ (y : Verdict). y .at) v);
         ledger = subst (IsLedger k) l (g .ledger);
         tally = g .tally ∙ t;
+        reading = g .reading ∙ s;
         same = g .same;
-        normal = λ y. subst₂ (HoldsBook k) l t (g .normal y);
+        normal = λ y. also s l t (g .normal y);
         last = λ _. evenly ∙ one-longer;
       }
 
   pub heard-right : x .part ≡ 0 → Watches b records replies (record { book = x .book; taken = taken + n; answered = answered + m; pairs = pairs + 1; part = 0 })
   unfolding before
   heard-right z =
-      let w : partOf (before .ledger) rec ans ≡ 0 = sym its-part ∙ z in
-      let v = goes-on ∙ one-right (before .at) (before .ledger) rec ans w in
-      let t : tallied (k .tally) (readReply ans) ≡ tallyAll (b .tally) (take (pairs + 1) (g .answers ++ (ans ∷ []))) =
-      ap (λ (u : Tally). tallied u (readReply ans)) counts
-      ∙ sym (tally-more (b .tally) (g .answers) ans)
-      ∙ ap (tallyAll (b .tally)) (sym (take-all (pairs + 1) (g .answers ++ (ans ∷ [])) (let u = one-longer in omega arith))) in
-      let y = subst₂ (HoldsBook (x .book)) (sym (ap (λ (u : Verdict). u .ledger) v)) t (next-normal (g .ledger) rec (readReply ans) (now-hears .kept (sym (now-hears .part) ∙ z))) in
+      let w : partOf carried (before .ledger) rec ans ≡ 0 = sym its-part ∙ z in
+      let v = goes-on ∙ one-right carried (before .at) (before .ledger) rec ans w in
+      let q = sym (take-all (pairs + 1) (g .answers ++ (ans ∷ [])) (let u = one-longer in omega arith)) in
+      let t : tallied (k .tally) (readReply (k .reading) ans) ≡ tallyAll (b .reading) (b .tally) (take (pairs + 1) (g .answers ++ (ans ∷ []))) =
+      ap₂ (λ (u : Tally) (st : Reading). tallied u (readReply st ans)) counts reads
+      ∙ sym (tally-more (b .reading) (b .tally) (g .answers) ans)
+      ∙ ap (tallyAll (b .reading) (b .tally)) q in
+      let s : further (k .reading) ans ≡ furtherAll (b .reading) (take (pairs + 1) (g .answers ++ (ans ∷ []))) =
+      ap (λ (st : Reading). further st ans) reads
+      ∙ sym (further-more (b .reading) (g .answers) ans)
+      ∙ ap (furtherAll (b .reading)) q in
+      let l = ap (λ (st : Reading). hear (before .ledger) rec (readReply st ans)) reads ∙ sym (ap (λ (u : Verdict). u .ledger) v) in
+      let y = also s l t (next-normal (g .ledger) rec (readReply (k .reading) ans) (now-hears .kept (sym (now-hears .part) ∙ z))) in
       record {
         said = g .said ++ (rec ∷ []);
         answers = g .answers ++ (ans ∷ []);
@@ -251,6 +272,7 @@ module _ {b k : Book} {records replies : List ℕ} (taken answered pairs n m : �
         pairs = ap (λ (u : ℕ). u + 1) (g .pairs) ∙ sym (ap (λ (u : Verdict). u .at) v);
         ledger = is-ledger y;
         tally = y .tally;
+        reading = y .reading;
         same = λ u. absurd (omega arith);
         normal = λ _. y;
         last = λ u. absurd (u refl);

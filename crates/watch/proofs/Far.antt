@@ -1,6 +1,6 @@
 -- What `hear_all` finds is a function of the bytes: heads leave one way to cut them, and each whole record goes with its whole reply as far as both go.
 use Prim.Native.Nat.{ℕ, _+_, _≤_, _<_, min}
-use mathlib.Core.Path.{_≡_, refl, sym, ap, ap₂, subst, subst₂, _∙_}
+use mathlib.Core.Path.{_≡_, refl, sym, ap, ap₂, subst, _∙_}
 use mathlib.Core.Bool.{true, cond, _||_}
 use mathlib.Core.List.{List, [], _∷_, _++_, append-nil}
 use native.Mathlib.Omega.{arith}
@@ -9,6 +9,8 @@ use lib.Seq.{take-at, take-append-add, take-append-le, length-take-le}
 use lib.Dec.{eqb}
 use borrow.Author.Tests.{eqb-true, eqb-false}
 use Rattle.paper.specs.Words.{allB}
+use Rattle.paper.specs.declared.Reading.{Reading}
+use Rattle.paper.specs.Reading.{furtherAll}
 use Rattle.paper.specs.Ledger.{Ledger}
 use Rattle.paper.specs.Watch.{Verdict, watched}
 use Rattle.paper.proofs.Bools.{split}
@@ -18,7 +20,7 @@ use Rattle.watch.specs.declared.Book.{Book}
 use Rattle.watch.specs.declared.exchanges.Paired.{Paired}
 use Rattle.watch.specs.Book.{bookIn, HoldsBook}
 use Rattle.watch.specs.Pairs.{tallyAll, Watches, WatchesAll}
-use Rattle.watch.proofs.Determined.{one-book}
+use Rattle.watch.proofs.Determined.{also, one-book}
 use Rattle.watch.proofs.ExchangeLaws.{watched-even}
 use Rattle.watch.proofs.Blocks.{watched-broken, watched-within}
 
@@ -37,23 +39,23 @@ none-left : {A : Type 0} (qs : List A) (n : ℕ) → min (length qs) n ≡ 0 →
 none-left qs n z = let k = length-take n qs in length-none (take n qs) (omega arith)
 
 -- each record with its reply, as far as both go
-abbrev pub asFar : Ledger → List (List ℕ) → List (List ℕ) → Verdict
-asFar L rs answers = watched 0 L (take (length answers) rs) (take (length rs) answers)
+abbrev pub asFar : Reading → Ledger → List (List ℕ) → List (List ℕ) → Verdict
+asFar st L rs answers = watched st 0 L (take (length answers) rs) (take (length rs) answers)
 
-module _ (L : Ledger) (said answers : List (List ℕ)) (e : length said ≡ length answers) (qs bs : List (List ℕ)) where
-  far-front : asFar L (said ++ qs) (answers ++ bs) ≡ watched 0 L (said ++ take (length bs) qs) (answers ++ take (length qs) bs)
-  far-front = ap₂ (watched 0 L) (both-front said qs answers bs e) (both-front answers bs said qs (sym e))
+module _ (st : Reading) (L : Ledger) (said answers : List (List ℕ)) (e : length said ≡ length answers) (qs bs : List (List ℕ)) where
+  far-front : asFar st L (said ++ qs) (answers ++ bs) ≡ watched st 0 L (said ++ take (length bs) qs) (answers ++ take (length qs) bs)
+  far-front = ap₂ (watched st 0 L) (both-front said qs answers bs e) (both-front answers bs said qs (sym e))
 
   -- what stands behind a broken part changes nothing
-  pub far-broken : (watched 0 L said answers .part ≡ 0 → ⊥) → asFar L (said ++ qs) (answers ++ bs) ≡ watched 0 L said answers
-  far-broken w = far-front ∙ watched-broken 0 L said answers (take (length bs) qs) (take (length qs) bs) e w
+  pub far-broken : (watched st 0 L said answers .part ≡ 0 → ⊥) → asFar st L (said ++ qs) (answers ++ bs) ≡ watched st 0 L said answers
+  far-broken w = far-front ∙ watched-broken st 0 L said answers (take (length bs) qs) (take (length qs) bs) e w
 
   -- and where one of them has no more, these are all
-  pub far-last : min (length qs) (length bs) ≡ 0 → asFar L (said ++ qs) (answers ++ bs) ≡ watched 0 L said answers
+  pub far-last : min (length qs) (length bs) ≡ 0 → asFar st L (said ++ qs) (answers ++ bs) ≡ watched st 0 L said answers
   far-last m =
       far-front
-      ∙ ap₂ (λ (x y : List (List ℕ)). watched 0 L (said ++ x) (answers ++ y)) (none-left qs (length bs) m) (none-left bs (length qs) (omega arith))
-      ∙ ap₂ (watched 0 L) (append-nil said) (append-nil answers)
+      ∙ ap₂ (λ (x y : List (List ℕ)). watched st 0 L (said ++ x) (answers ++ y)) (none-left qs (length bs) m) (none-left bs (length qs) (omega arith))
+      ∙ ap₂ (watched st 0 L) (append-nil said) (append-nil answers)
 
 -- ---- `hear_all`
 
@@ -82,35 +84,31 @@ module _ {b : Book} {records replies : List ℕ} {p : Paired} (g : WatchesAll b 
   heard = g .watches
 
   abbrev found : Verdict
-  found = asFar (bookIn b) (cut records) (cut replies)
+  found = asFar (b .reading) (bookIn b) (cut records) (cut replies)
 
   -- THE EXCHANGES ARE THOSE OF THE BYTES, as far as both go
-  pub heard-far : watched 0 (bookIn b) (heard .said) (heard .answers) ≡ found
+  pub heard-far : watched (b .reading) 0 (bookIn b) (heard .said) (heard .answers) ≡ found
   heard-far =
       let x = drop (p .taken) records in
       let y = drop (p .answered) replies in
-      let c = ap₂ (asFar (bookIn b)) (cut-behind records (p .taken) (heard .said) (heard .whole-said) (heard .cut-said)) (cut-behind replies (p .answered) (heard .answers) (heard .whole-answers) (heard .cut-answers)) in
+      let c = ap₂ (asFar (b .reading) (bookIn b)) (cut-behind records (p .taken) (heard .said) (heard .whole-said) (heard .cut-said)) (cut-behind replies (p .answered) (heard .answers) (heard .whole-answers) (heard .cut-answers)) in
       split (eqb (p .part) 0)
-      (λ e. sym (c ∙ far-last (bookIn b) (heard .said) (heard .answers) (heard .even) (cut x) (cut y) (no-more x y (g .rest (eqb-true (p .part) 0 e)))))
-      (λ e. sym (c ∙ far-broken (bookIn b) (heard .said) (heard .answers) (heard .even) (cut x) (cut y) (λ z. eqb-false (p .part) 0 e (heard .part ∙ z))))
+      (λ e. sym (c ∙ far-last (b .reading) (bookIn b) (heard .said) (heard .answers) (heard .even) (cut x) (cut y) (no-more x y (g .rest (eqb-true (p .part) 0 e)))))
+      (λ e. sym (c ∙ far-broken (b .reading) (bookIn b) (heard .said) (heard .answers) (heard .even) (cut x) (cut y) (λ z. eqb-false (p .part) 0 e (heard .part ∙ z))))
 
   -- where some go into the book, it is in normal form
-  heard-normal : 0 < p .pairs → HoldsBook (p .book) (found .ledger) (tallyAll (b .tally) (take (p .pairs) (cut replies)))
+  heard-normal : 0 < p .pairs → HoldsBook (p .book) (furtherAll (b .reading) (take (p .pairs) (cut replies))) (found .ledger) (tallyAll (b .reading) (b .tally) (take (p .pairs) (cut replies)))
   heard-normal h =
-      let k = watched-within 0 (bookIn b) (heard .said) (heard .answers) in
+      let k = watched-within (b .reading) 0 (bookIn b) (heard .said) (heard .answers) in
       let y = cut (drop (p .answered) replies) in
-      subst₂
-      (HoldsBook (p .book))
-      (ap (λ (w : Verdict). w .ledger) heard-far)
-      (ap (tallyAll (b .tally))
-      (sym (take-append-le (p .pairs) (heard .answers) y (omega (arith, heard .pairs))) ∙ ap (take (p .pairs)) (sym (cut-behind replies (p .answered) (heard .answers) (heard .whole-answers) (heard .cut-answers)))))
-      (heard .normal h)
+      let q = sym (take-append-le (p .pairs) (heard .answers) y (omega (arith, heard .pairs))) ∙ ap (take (p .pairs)) (sym (cut-behind replies (p .answered) (heard .answers) (heard .whole-answers) (heard .cut-answers))) in
+      also (ap (furtherAll (b .reading)) q) (ap (λ (w : Verdict). w .ledger) heard-far) (ap (tallyAll (b .reading) (b .tally)) q) (heard .normal h)
 
   heard-many : length (heard .said) ≡ many (p .pairs) (p .part)
   heard-many =
       split (eqb (p .part) 0)
       (λ e.
-      let k = watched-even 0 (bookIn b) (heard .said) (heard .answers) (sym (heard .part) ∙ eqb-true (p .part) 0 e) in
+      let k = watched-even (b .reading) 0 (bookIn b) (heard .said) (heard .answers) (sym (heard .part) ∙ eqb-true (p .part) 0 e) in
       rw e (omega (arith, k .0, k .1, heard .pairs)))
       (λ e. rw e (heard .last (eqb-false (p .part) 0 e)))
 
@@ -135,5 +133,5 @@ one-hearing {b} {records} {replies} {p} {q} g h =
     (λ y. let z = eqb-true (p .pairs) 0 y in g .watches .same z ∙ sym (h .watches .same (sym n ∙ z)))
     (λ y.
     let z = eqb-false (p .pairs) 0 y in
-    one-book (subst (λ (m : ℕ). HoldsBook (p .book) (asFar (bookIn b) (cut records) (cut replies) .ledger) (tallyAll (b .tally) (take m (cut replies)))) n (heard-normal g (omega arith))) (heard-normal h (omega arith))) in
+    one-book (subst (λ (m : ℕ). HoldsBook (p .book) (furtherAll (b .reading) (take m (cut replies))) (asFar (b .reading) (bookIn b) (cut records) (cut replies) .ledger) (tallyAll (b .reading) (b .tally) (take m (cut replies)))) n (heard-normal g (omega arith))) (heard-normal h (omega arith))) in
     λ i. record { book = k i; taken = t i; answered = a i; pairs = n i; part = e i }

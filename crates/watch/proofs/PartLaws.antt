@@ -11,6 +11,7 @@ use Rattle.derivation.proofs.Pad.{is-view}
 use Rattle.paper.specs.Words.{first, anyB, allB}
 use Rattle.paper.specs.Ledger.{Event, Hand, Throw, Free, waits, waitsAs, lies, quietAt, upon, uponAll}
 use Rattle.paper.specs.Watch.{eventPart, tailPart}
+use Rattle.paper.specs.declared.Reading.{Reading}
 use Rattle.paper.specs.declared.Serial.{Serial}
 use Rattle.paper.specs.declared.Surface.{Surface}
 use Rattle.paper.specs.declared.Shown.{Shown}
@@ -139,30 +140,30 @@ tells-then {es} fs {H} h z g =
 
 -- ---- a run of events in the bytes: from a place on, the part and the lines of all
 
-module _ (p : Part) (r : List ℕ) (k n i T : ℕ) (U : List Line) (l : Lines) where
-  pub run-again : (e : Event) (step : ℕ) (m : Lines) → step ≡ sizeOf p → e ≡ eventAt p r k → eventPart e (view l) ≡ 0 → i < n → Holds m (upon e (view l))
-      → tailPart (eventsOf p (n - i) (drop k r)) (view l) ≡ T → uponAll (eventsOf p (n - i) (drop k r)) (view l) ≡ U
-      → (tailPart (eventsOf p (n - (i + 1)) (drop (k + step) r)) (view m) ≡ T) × (uponAll (eventsOf p (n - (i + 1)) (drop (k + step) r)) (view m) ≡ U)
+module _ (st : Reading) (p : Part) (r : List ℕ) (k n i T : ℕ) (U : List Line) (l : Lines) where
+  pub run-again : (e : Event) (step : ℕ) (m : Lines) → step ≡ sizeOf st p → e ≡ eventAt st p r k → eventPart e (view l) ≡ 0 → i < n → Holds m (upon e (view l))
+      → tailPart (eventsOf st p (n - i) (drop k r)) (view l) ≡ T → uponAll (eventsOf st p (n - i) (drop k r)) (view l) ≡ U
+      → (tailPart (eventsOf st p (n - (i + 1)) (drop (k + step) r)) (view m) ≡ T) × (uponAll (eventsOf st p (n - (i + 1)) (drop (k + step) r)) (view m) ≡ U)
   run-again e step m s d z lt h t u =
-      let es = eventsOf p (n - (i + 1)) (drop (k + sizeOf p) r) in
+      let es = eventsOf st p (n - (i + 1)) (drop (k + sizeOf st p) r) in
       let w : n - i ≡ suc (n - (i + 1)) = omega arith in
-      let q : eventsOf p (n - i) (drop k r) ≡ e ∷ es = rw (w, d) (events-more p (n - (i + 1)) k r) in
+      let q : eventsOf st p (n - i) (drop k r) ≡ e ∷ es = rw (w, d) (events-more st p (n - (i + 1)) k r) in
       let f : tailPart (e ∷ es) (view l) ≡ T = rw q at t in
       let g : uponAll (e ∷ es) (view l) ≡ U = rw q at u in
       rw (s, is-view h) (sym (tail-right e es (view l) z) ∙ f, sym (upon-one e es (view l)) ∙ g)
 
-  pub run-stops : (e : Event) → e ≡ eventAt p r k → (eventPart e (view l) ≡ 0 → ⊥) → i < n
-      → tailPart (eventsOf p (n - i) (drop k r)) (view l) ≡ T → eventPart e (view l) ≡ T
+  pub run-stops : (e : Event) → e ≡ eventAt st p r k → (eventPart e (view l) ≡ 0 → ⊥) → i < n
+      → tailPart (eventsOf st p (n - i) (drop k r)) (view l) ≡ T → eventPart e (view l) ≡ T
   run-stops e d z lt t =
-      let es = eventsOf p (n - (i + 1)) (drop (k + sizeOf p) r) in
+      let es = eventsOf st p (n - (i + 1)) (drop (k + sizeOf st p) r) in
       let w : n - i ≡ suc (n - (i + 1)) = omega arith in
-      let q : eventsOf p (n - i) (drop k r) ≡ e ∷ es = rw (w, d) (events-more p (n - (i + 1)) k r) in
+      let q : eventsOf st p (n - i) (drop k r) ≡ e ∷ es = rw (w, d) (events-more st p (n - (i + 1)) k r) in
       let f : tailPart (e ∷ es) (view l) ≡ T = rw q at t in
       sym (tail-wrong e es (view l) z) ∙ f
 
-  pub run-ends : n ≤ i → tailPart (eventsOf p (n - i) (drop k r)) (view l) ≡ T → uponAll (eventsOf p (n - i) (drop k r)) (view l) ≡ U → (_≡_ {A = ℕ} 0 T) × (view l ≡ U)
+  pub run-ends : n ≤ i → tailPart (eventsOf st p (n - i) (drop k r)) (view l) ≡ T → uponAll (eventsOf st p (n - i) (drop k r)) (view l) ≡ U → (_≡_ {A = ℕ} 0 T) × (view l ≡ U)
   unfolding tailPart uponAll
   run-ends le t u =
       let w : n - i ≡ 0 = omega arith in
-      let q : eventsOf p (n - i) (drop k r) ≡ [] = rw w (events-none p (drop k r)) in
+      let q : eventsOf st p (n - i) (drop k r) ≡ [] = rw w (events-none st p (drop k r)) in
       (rw q at t, rw q at u)

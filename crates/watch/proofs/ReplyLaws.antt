@@ -17,6 +17,7 @@ use Rattle.paper.specs.Replies.{Reply}
 use Rattle.paper.specs.WholeReply.{thrownAt, membersOf, tailPlace}
 use Rattle.paper.specs.Accounts.{tailIn}
 use Rattle.paper.specs.Ledger.{readWords, readSerials, readSets, readBegun, setWords, readReply, heard, lineOf, names}
+use Rattle.paper.specs.declared.Reading.{Reading}
 use Rattle.paper.specs.declared.Serial.{Serial}
 use Rattle.paper.specs.declared.Line.{Line}
 use Rattle.paper.proofs.Bools.{split}
@@ -29,46 +30,46 @@ use Rattle.watch.proofs.Bytes.{u32-drop, words-more, words-append, thro
 
 -- ---- the kind of reply
 
-module _ (a : List ℕ) where
-  pub read-refused : (u16 a numberPlace ≡ 0 → ⊥) → readReply a ≡ Reply.Refused (kindOf a) (u16 a numberPlace)
+module _ (st : Reading) (a : List ℕ) where
+  pub read-refused : (u16 a numberPlace ≡ 0 → ⊥) → readReply st a ≡ Reply.Refused (kindOf a) (u16 a numberPlace)
   unfolding readReply
   read-refused n = simp (ne-eqb (u16 a numberPlace) 0 n)
 
   module _ (z : u16 a numberPlace ≡ 0) where
-    pub read-started : kindOf a ≡ replyTo beginKind → readReply a ≡ startedIn a
+    pub read-started : kindOf a ≡ replyTo beginKind → readReply st a ≡ startedIn st a
     unfolding readReply
     read-started k = simp (z, k)
 
-    pub read-listed : kindOf a ≡ replyTo listsKind → readReply a ≡ Reply.Listed (readSerials (u8 a restPlace) (drop listsPlace a)) (readSerials (u8 a (restPlace + 1)) (drop (4 * u8 a restPlace) (drop listsPlace a)))
+    pub read-listed : kindOf a ≡ replyTo listsKind → readReply st a ≡ Reply.Listed (readSerials (u8 a restPlace) (drop listsPlace a)) (readSerials (u8 a (restPlace + 1)) (drop (4 * u8 a restPlace) (drop listsPlace a)))
     unfolding readReply
     read-listed k = simp (z, k)
 
-    pub read-done : (kindOf a ≡ replyTo beginKind → ⊥) → (kindOf a ≡ replyTo listsKind → ⊥) → readReply a ≡ doneIn a
+    pub read-done : (kindOf a ≡ replyTo beginKind → ⊥) → (kindOf a ≡ replyTo listsKind → ⊥) → readReply st a ≡ doneIn st a
     unfolding readReply
     read-done n m = simp (z, ne-eqb (kindOf a) (replyTo beginKind) n, ne-eqb (kindOf a) (replyTo listsKind) m)
 
 -- ---- whether it answers the record
 
-module _ (r a : List ℕ) where
-  pub heard-refused : (u16 a numberPlace ≡ 0 → ⊥) → heard r (readReply a) ≡ cond (eqb (u16 a numberPlace) 13) (eqb (kindOf a) malformedReply) (eqb (kindOf a) (replyTo (kindOf r)))
+module _ (st : Reading) (r a : List ℕ) where
+  pub heard-refused : (u16 a numberPlace ≡ 0 → ⊥) → heard r (readReply st a) ≡ cond (eqb (u16 a numberPlace) 13) (eqb (kindOf a) malformedReply) (eqb (kindOf a) (replyTo (kindOf r)))
   unfolding heard
-  heard-refused n = rw (read-refused a n)
+  heard-refused n = rw (read-refused st a n)
 
-  pub heard-else : u16 a numberPlace ≡ 0 → heard r (readReply a) ≡ eqb (kindOf a - replyOffset) (kindOf r)
+  pub heard-else : u16 a numberPlace ≡ 0 → heard r (readReply st a) ≡ eqb (kindOf a - replyOffset) (kindOf r)
   unfolding heard
   heard-else z =
       split (eqb (kindOf a) (replyTo beginKind))
       (λ e.
       let k : kindOf a ≡ replyTo beginKind = eqb-true (kindOf a) (replyTo beginKind) e in
       let m : kindOf a - replyOffset ≡ 2 = omega arith in
-      ap (heard r) (read-started a z k) ∙ ap (λ (n : ℕ). eqb n (kindOf r)) (sym m))
+      ap (heard r) (read-started st a z k) ∙ ap (λ (n : ℕ). eqb n (kindOf r)) (sym m))
       (λ e.
       split (eqb (kindOf a) (replyTo listsKind))
       (λ f.
       let k : kindOf a ≡ replyTo listsKind = eqb-true (kindOf a) (replyTo listsKind) f in
       let m : kindOf a - replyOffset ≡ 3 = omega arith in
-      ap (heard r) (read-listed a z k) ∙ ap (λ (n : ℕ). eqb n (kindOf r)) (sym m))
-      (λ f. ap (heard r) (read-done a z (eqb-false (kindOf a) (replyTo beginKind) e) (eqb-false (kindOf a) (replyTo listsKind) f))))
+      ap (heard r) (read-listed st a z k) ∙ ap (λ (n : ℕ). eqb n (kindOf r)) (sym m))
+      (λ f. ap (heard r) (read-done st a z (eqb-false (kindOf a) (replyTo beginKind) e) (eqb-false (kindOf a) (replyTo listsKind) f))))
 
 -- ---- the place of a begin's tail, and its members
 
@@ -148,28 +149,28 @@ names-end H bs = refl
 stay : (n : ℕ) → n ≤ most → n ≡ min (n + 0) most
 stay n h = omega arith
 
-module _ (t : Tally) (a : List ℕ) where
+module _ (st : Reading) (t : Tally) (a : List ℕ) where
   pub tally-refused : (u16 a numberPlace ≡ 0 → ⊥) → t .handed ≤ most → t .thrown ≤ most → t .lists ≤ most
-      → record { handed = t .handed; thrown = t .thrown; lists = t .lists } ≡ tallied t (readReply a)
+      → record { handed = t .handed; thrown = t .thrown; lists = t .lists } ≡ tallied t (readReply st a)
   unfolding tallied tailIn listsIn
-  tally-refused n h u l = rw (read-refused a n) (λ i. record { handed = stay (t .handed) h i; thrown = stay (t .thrown) u i; lists = stay (t .lists) l i })
+  tally-refused n h u l = rw (read-refused st a n) (λ i. record { handed = stay (t .handed) h i; thrown = stay (t .thrown) u i; lists = stay (t .lists) l i })
 
   module _ (z : u16 a numberPlace ≡ 0) where
     pub tally-listed : kindOf a ≡ replyTo listsKind → t .handed ≤ most → t .thrown ≤ most
-        → record { handed = t .handed; thrown = t .thrown; lists = min (t .lists + 1) most } ≡ tallied t (readReply a)
+        → record { handed = t .handed; thrown = t .thrown; lists = min (t .lists + 1) most } ≡ tallied t (readReply st a)
     unfolding tallied tailIn listsIn
-    tally-listed k h u = rw (read-listed a z k) (λ i. record { handed = stay (t .handed) h i; thrown = stay (t .thrown) u i; lists = min (t .lists + 1) most })
+    tally-listed k h u = rw (read-listed st a z k) (λ i. record { handed = stay (t .handed) h i; thrown = stay (t .thrown) u i; lists = min (t .lists + 1) most })
 
     pub tally-tail : (kindOf a ≡ replyTo listsKind → ⊥) → t .lists ≤ most
-        → record { handed = min (t .handed + u8 a (tailPlace a)) most; thrown = min (t .thrown + u8 a (thrownAt shownWidth a (tailPlace a))) most; lists = t .lists } ≡ tallied t (readReply a)
+        → record { handed = min (t .handed + u8 a (tailPlace a)) most; thrown = min (t .thrown + u8 a (thrownAt shownWidth a (tailPlace a))) most; lists = t .lists } ≡ tallied t (readReply st a)
     unfolding tallied tailIn listsIn
     tally-tail n l =
         split (eqb (kindOf a) (replyTo beginKind))
         (λ e.
         let k : kindOf a ≡ replyTo beginKind = eqb-true (kindOf a) (replyTo beginKind) e in
-        rw (tail-begun a k, read-started a z k, tail-there a, handed-count (membersPlace + wordWidth * membersOf a) a, thrown-count (membersPlace + wordWidth * membersOf a) a)
+        rw (tail-begun a k, read-started st a z k, tail-there a, handed-count st (membersPlace + wordWidth * membersOf a) a, thrown-count st (membersPlace + wordWidth * membersOf a) a)
         (λ i. record { handed = min (t .handed + u8 a (membersPlace + wordWidth * membersOf a)) most; thrown = min (t .thrown + u8 a (thrownAt shownWidth a (membersPlace + wordWidth * membersOf a))) most; lists = stay (t .lists) l i }))
         (λ e.
         let k = eqb-false (kindOf a) (replyTo beginKind) e in
-        rw (tail-other a k, read-done a z k n, handed-count 6 a, thrown-count 6 a)
+        rw (tail-other a k, read-done st a z k n, handed-count st 6 a, thrown-count st 6 a)
         (λ i. record { handed = min (t .handed + u8 a restPlace) most; thrown = min (t .thrown + u8 a (thrownAt shownWidth a 6)) most; lists = stay (t .lists) l i }))

@@ -8,7 +8,9 @@ use lib.IntN.{pos}
 use Rattle.derivation.specs.Pad.{Padded, used}
 use Rattle.paper.specs.declared.Line.{Line}
 use Rattle.paper.specs.Replies.{Reply}
-use Rattle.paper.specs.Ledger.{Ledger}
+use Rattle.paper.specs.Ledger.{Ledger, readReply}
+use Rattle.paper.specs.declared.Reading.{Reading}
+use Rattle.paper.specs.Reading.{further}
 use Rattle.paper.specs.Accounts.{tailIn}
 use Rattle.watch.specs.declared.Lines.{Lines}
 use Rattle.watch.specs.declared.Slot.{Slot}
@@ -46,13 +48,14 @@ bookIn b = record { held = view (clamped (b .held)); current = currentIn (b .cur
 abbrev pub noTally : Tally
 noTally = record { handed = 0; thrown = 0; lists = 0 }
 
--- A book in normal form that is this ledger, with this tally
-pub record HoldsBook (b : Book) (L : Ledger) (t : Tally) : Type 0 where
+-- A book in normal form that reads on with this, is this ledger, with this tally
+pub record HoldsBook (b : Book) (st : Reading) (L : Ledger) (t : Tally) : Type 0 where
   pub held : Holds (b .held) (L .held)
   pub few : b .held .len ≤ 16
   pub current : currentIn (b .current) ≡ L .current
   pub begun : b .begun ≡ L .begun
   pub tally : b .tally ≡ t
+  pub reading : b .reading ≡ st
 
 -- the tally with what a reply tells; each number stops at the greatest that 64 bits hold
 abbrev pub most : ℕ
@@ -72,5 +75,7 @@ tallied t x =
       lists = min (t .lists + listsIn x) most;
     }
 
-abbrev pub withTally : Book → Tally → Book
-withTally b t = record { held = b .held; current = b .current; begun = b .begun; tally = t }
+-- with what a reply of these bytes tells, and read on behind it
+abbrev pub goneOn : Book → List ℕ → Book
+goneOn b a =
+    record { held = b .held; current = b .current; begun = b .begun; tally = tallied (b .tally) (readReply (b .reading) a); reading = further (b .reading) a }

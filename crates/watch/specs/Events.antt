@@ -4,7 +4,9 @@ use mathlib.Core.Path.{_≡_}
 use mathlib.Core.List.{List, map}
 use lib.ListN.{drop}
 use Rattle.paper.specs.Numbers.{u8, u32, i32, aSerial, aSurface}
-use Rattle.paper.specs.Kinds.{wordWidth, shownWidth}
+use Rattle.paper.specs.Kinds.{wordWidth}
+use Rattle.paper.specs.declared.Reading.{Reading}
+use Rattle.paper.specs.Reading.{shownWidthIn}
 use Rattle.paper.specs.Ledger.{Event, Hand, Throw, Free, readShown, readWords, uponAll}
 use Rattle.paper.specs.Watch.{tailPart}
 use Rattle.paper.specs.declared.Shown.{Shown}
@@ -23,28 +25,28 @@ eventIn (said.Throw n) = Throw n
 eventIn (said.Free x) = Free x
 
 -- "serial u32, surface u32, POC i32"
-abbrev pub shownAt : List ℕ → ℕ → Shown
-shownAt r at = record { serial = aSerial (u32 r at); surface = aSurface (u32 r (at + wordWidth)); poc = i32 r (at + 2 * wordWidth) }
+abbrev pub shownAt : Reading → List ℕ → ℕ → Shown
+shownAt st r at = record { serial = aSerial (u32 r at); surface = aSurface (u32 r (at + wordWidth)); poc = i32 r (at + 2 * wordWidth) }
 
-unfoldable pub eventAt : Part → List ℕ → ℕ → Event
-eventAt Handed r at = Hand (shownAt r at)
-eventAt Thrown r at = Throw (aSerial (u32 r at))
-eventAt Released r at = Free (aSurface (u32 r at))
+unfoldable pub eventAt : Reading → Part → List ℕ → ℕ → Event
+eventAt st Handed r at = Hand (shownAt st r at)
+eventAt st Thrown r at = Throw (aSerial (u32 r at))
+eventAt st Released r at = Free (aSurface (u32 r at))
 
-unfoldable pub sizeOf : Part → ℕ
-sizeOf Handed = shownWidth
-sizeOf Thrown = wordWidth
-sizeOf Released = wordWidth
+unfoldable pub sizeOf : Reading → Part → ℕ
+sizeOf st Handed = shownWidthIn st
+sizeOf st Thrown = wordWidth
+sizeOf st Released = wordWidth
 
 -- n events of one part
-unfoldable pub eventsOf : Part → ℕ → List ℕ → List Event
-eventsOf Handed n bs = map Hand (readShown n bs)
-eventsOf Thrown n bs = map Throw (map aSerial (readWords n bs))
-eventsOf Released n bs = map Free (map aSurface (readWords n bs))
+unfoldable pub eventsOf : Reading → Part → ℕ → List ℕ → List Event
+eventsOf st Handed n bs = map Hand (readShown st n bs)
+eventsOf st Thrown n bs = map Throw (map aSerial (readWords n bs))
+eventsOf st Released n bs = map Free (map aSurface (readWords n bs))
 
 -- a count and as many events
-unfoldable pub counted : Part → List ℕ → List Event
-counted p bs = eventsOf p (u8 bs 0) (drop 1 bs)
+unfoldable pub counted : Reading → Part → List ℕ → List Event
+counted st p bs = eventsOf st p (u8 bs 0) (drop 1 bs)
 
 -- the part that the events break, or 0 and the lines after them
 pub record Tells (es : List Event) (H : List Line) (t : Told) : Type 0 where

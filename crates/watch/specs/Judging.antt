@@ -1,4 +1,4 @@
--- A reply against a book in normal form: the part it breaks, or 0 and the book after it, with the tally as it was.
+-- A reply against a book in normal form: the part it breaks, or 0 and the book after it, with tally and reading as they were.
 use Prim.Native.Nat.{ℕ, _+_, _*_, _≤_}
 use mathlib.Core.Path.{_≡_}
 use mathlib.Core.List.{List, [], _∷_}
@@ -11,6 +11,7 @@ use Rattle.paper.specs.Output.{Tail}
 use Rattle.paper.specs.Replies.{Reply}
 use Rattle.paper.specs.Ledger.{Ledger, readBegun, readTail, readSerials, clearing, names, tell, unchanged, abandoned, landed}
 use Rattle.paper.specs.Watch.{replyPart, listedPart, endPart, abandonPart, landedPart}
+use Rattle.paper.specs.declared.Reading.{Reading}
 use Rattle.paper.specs.declared.Serial.{Serial}
 use Rattle.paper.specs.declared.Line.{Line}
 use Rattle.watch.specs.Book.{view, Good, currentIn, HoldsBook}
@@ -32,16 +33,16 @@ abbrev pub calls : List Line → Serial → Bool
 calls H n = sameSerial n missing || anyB (named n) H
 
 -- the last two parts of a begin whose reply has n members, of the lines that its tail leaves
-abbrev pub leftPart : List Line → List ℕ → ℕ → ℕ
-leftPart H a n =
-    first (not (clearing (readBegun (drop restPlace a)) (readTail (drop (membersPlace + wordWidth * n) a)) H) gives 19
+abbrev pub leftPart : Reading → List Line → List ℕ → ℕ → ℕ
+leftPart st H a n =
+    first (not (clearing (readBegun (drop restPlace a)) (readTail st (drop (membersPlace + wordWidth * n) a)) H) gives 19
     ∷ not (names (readSerials n (drop membersPlace a)) H) gives 12
     ∷ [])
 
 -- the part, and the book after it where the part is 0
 pub record Gives (b : Book) (p : ℕ) (L : Ledger) (h : Heard) : Type 0 where
   pub part : h .part ≡ p
-  pub book : p ≡ 0 → HoldsBook (h .book) L (b .tally)
+  pub book : p ≡ 0 → HoldsBook (h .book) (b .reading) L (b .tally)
 
 abbrev pub Judged : Book → List ℕ → Reply → Heard → Type 0
 Judged b r x h = Gives b (replyPart (pageOf b) r x) (tell (pageOf b) r x) h

@@ -6,7 +6,10 @@ use crate::held::has_any;
 use crate::line::Ask;
 use crate::line::Change;
 use format::behind;
+use format::behind_shown;
 use format::kinds;
+use format::shown_width;
+use paper::Reading;
 use paper::Serial;
 use paper::Shown;
 use paper::Surface;
@@ -14,7 +17,7 @@ ghost use mathlib.Core.Path.{_≡_};
 ghost use Prim.Native.Nat.{_+_, _≤_, _<_};
 ghost use lib.ListN.{drop};
 ghost use Rattle.paper.specs.Numbers.{u8};
-ghost use Rattle.paper.specs.Kinds.{shownWidth};
+ghost use Rattle.paper.specs.Reading.{shownWidthIn};
 ghost use Rattle.paper.specs.Ledger.{upon, events, readTail, Hand, Throw, Free};
 ghost use Rattle.paper.specs.Watch.{eventPart};
 ghost use Rattle.watch.specs.Book.{Holds, view, Good};
@@ -41,9 +44,9 @@ pub struct Told {
 }
 
 // The picture handed out that stands at a place: "serial u32, surface u32, POC i32".
-fn shown_at(reply: &[u8], at: usize) -> Shown
+fn shown_at(st: Reading, reply: &[u8], at: usize) -> Shown
     requires { ⌜ at < 100000 ⌝ }
-    ensures { λ r. ⌜ r ≡ shownAt (now (reply .entry)) at ⌝ }
+    ensures { λ r. ⌜ r ≡ shownAt st (now (reply .entry)) at ⌝ }
 {
     Shown {
         serial: Serial(wire::u32_at(reply, at)),
@@ -53,23 +56,23 @@ fn shown_at(reply: &[u8], at: usize) -> Shown
 }
 
 // The event that stands at a place.
-fn event_at(p: Part, reply: &[u8], at: usize) -> Event
+fn event_at(st: Reading, p: Part, reply: &[u8], at: usize) -> Event
     requires { ⌜ at < 100000 ⌝ }
-    ensures { λ r. ⌜ eventIn r ≡ eventAt p (now (reply .entry)) at ⌝ }
+    ensures { λ r. ⌜ eventIn r ≡ eventAt st p (now (reply .entry)) at ⌝ }
 {
     match p {
-        Part::Handed => Event::Hand(shown_at(reply, at)),
+        Part::Handed => Event::Hand(shown_at(st, reply, at)),
         Part::Thrown => Event::Throw(Serial(wire::u32_at(reply, at))),
         Part::Released => Event::Free(Surface(wire::u32_at(reply, at))),
     }
 }
 
 // How many bytes an event of this part has.
-fn size(p: Part) -> usize
-    ensures { λ r. ⌜ (r ≡ sizeOf p) × (r ≤ shownWidth) ⌝ }
+fn size(st: Reading, p: Part) -> usize
+    ensures { λ r. ⌜ (r ≡ sizeOf st p) × (r ≤ shownWidthIn st) ⌝ }
 {
     match p {
-        Part::Handed => kinds::SHOWN,
+        Part::Handed => shown_width(st) as usize,
         Part::Thrown => kinds::WORD,
         Part::Released => kinds::WORD,
     }
@@ -134,16 +137,16 @@ fn after(l: Lines, e: Event) -> Lines
 }
 
 // n events of one part, one after the other, up to the first that is wrong.
-fn run(l: Lines, p: Part, reply: &[u8], at: usize, n: usize) -> Told
+fn run(st: Reading, l: Lines, p: Part, reply: &[u8], at: usize, n: usize) -> Told
     requires { ⌜ Good l × ((n ≤ 255) × (at ≤ 30000)) ⌝ }
-    ensures { λ r. ⌜ Tells (eventsOf p n (drop at (now (reply .entry)))) (view l) r ⌝ }
+    ensures { λ r. ⌜ Tells (eventsOf st p n (drop at (now (reply .entry)))) (view l) r ⌝ }
 {
-    let step = size(p);
+    let step = size(st, p);
     let mut lines = l;
     let mut place = at;
     let mut i: usize = 0;
     while i < n {
-        let e = event_at(p, reply, place);
+        let e = event_at(st, p, reply, place);
         let part = event_part(lines, e);
         if part != 0 {
             return Told { part, lines };
@@ -156,30 +159,30 @@ fn run(l: Lines, p: Part, reply: &[u8], at: usize, n: usize) -> Told
 }
 
 // A count and as many events.
-fn run_counted(l: Lines, p: Part, reply: &[u8], at: usize) -> Told
+fn run_counted(st: Reading, l: Lines, p: Part, reply: &[u8], at: usize) -> Told
     requires { ⌜ Good l × (at < 30000) ⌝ }
-    ensures { λ r. ⌜ Tells (counted p (drop at (now (reply .entry)))) (view l) r ⌝ }
+    ensures { λ r. ⌜ Tells (counted st p (drop at (now (reply .entry)))) (view l) r ⌝ }
 {
     let n = wire::byte(reply, at) as usize;
-    run(l, p, reply, at + 1, n)
+    run(st, l, p, reply, at + 1, n)
 }
 
 // The tail that stands at a place: "each picture handed out; .. serials thrown away; .. surfaces released".
-pub(crate) fn tail(l: Lines, reply: &[u8], at: usize) -> Told
+pub(crate) fn tail(st: Reading, l: Lines, reply: &[u8], at: usize) -> Told
     requires { ⌜ Good l × (at < 20000) ⌝ }
-    ensures { λ r. ⌜ Tells (events (readTail (drop at (now (reply .entry))))) (view l) r ⌝ }
+    ensures { λ r. ⌜ Tells (events (readTail st (drop at (now (reply .entry))))) (view l) r ⌝ }
 {
-    let a = run_counted(l, Part::Handed, reply, at);
+    let a = run_counted(st, l, Part::Handed, reply, at);
     if a.part != 0 {
         return a;
     }
-    let second = behind(reply, at, kinds::SHOWN_WIDTH);
+    let second = behind_shown(st, reply, at);
     let x = a.lines;
-    let b = run_counted(x, Part::Thrown, reply, second);
+    let b = run_counted(st, x, Part::Thrown, reply, second);
     if b.part != 0 {
         return b;
     }
     let third = behind(reply, second, kinds::WORD_WIDTH);
     let y = b.lines;
-    run_counted(y, Part::Released, reply, third)
+    run_counted(st, y, Part::Released, reply, third)
 }

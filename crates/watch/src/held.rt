@@ -134,8 +134,9 @@ fn held_of(l: Lines) -> Lines
 
 // The same book in normal form.
 pub(crate) fn tidy(b: Book) -> Book
-    ensures { λ r. ⌜ HoldsBook r (bookIn b) (b .tally) ⌝ }
+    ensures { λ r. ⌜ HoldsBook r (b .reading) (bookIn b) (b .tally) ⌝ }
 {
+    let reading = b.reading;
     let l = b.held;
     let held = held_of(l);
     let current = b.current;
@@ -145,5 +146,6 @@ pub(crate) fn tidy(b: Book) -> Book
         current,
         begun: b.begun,
         tally,
+        reading,
     }
 }

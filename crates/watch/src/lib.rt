@@ -12,6 +12,7 @@ mod totals;
 pub use exchanges::Paired;
 pub use exchanges::hear_all;
 use paper::Line;
+use paper::Reading;
 use paper::Serial;
 use paper::Surface;
 pub use replies::plus;
@@ -20,6 +21,7 @@ pub use totals::current;
 pub use totals::surfaces;
 pub use totals::waiting;
 ghost use mathlib.Core.List.{[]};
+ghost use Rattle.paper.specs.Reading.{opening};
 ghost use Rattle.paper.specs.Ledger.{blank};
 ghost use Rattle.watch.specs.Book.{Holds, HoldsBook, noTally};
 ghost use Rattle.watch.specs.Hears.{Hears};
@@ -45,12 +47,13 @@ pub struct Tally {
 }
 
 // What somebody knows who has seen the records and the replies: the pictures stored, the current one, how many were
-// begun, and the tally.
+// begun, the tally, and what the reader of the replies carries to the next one.
 pub struct Book {
     pub held: Lines,
     pub current: Slot,
     pub begun: u64,
     pub tally: Tally,
+    pub reading: Reading,
 }
 
 // The part of demand 3 that an exchange breaks, or 0, and the book after it.
@@ -81,8 +84,9 @@ impl Lines {
 impl Book {
     // Before the first exchange.
     pub fn new() -> Self
-        ensures { λ r. ⌜ HoldsBook r blank noTally ⌝ }
+        ensures { λ r. ⌜ HoldsBook r opening blank noTally ⌝ }
     {
+        let reading = format::opening();
         let held = Lines::none();
         Book {
             held,
@@ -93,6 +97,7 @@ impl Book {
                 thrown: 0,
                 lists: 0,
             },
+            reading,
         }
     }
 }
@@ -102,7 +107,8 @@ impl Book {
 pub fn hear(b: Book, msg: &[u8], reply: &[u8]) -> Heard
     ensures { λ r. ⌜ Hears b (now (msg .entry)) (now (reply .entry)) r ⌝ }
 {
-    if !format::is_whole(reply) {
+    let st = b.reading;
+    if !format::is_whole(st, reply) {
         return Heard { part: 1, book: b };
     }
     if !replies::answers(msg, reply) {

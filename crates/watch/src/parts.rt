@@ -9,9 +9,11 @@ use crate::held::joined;
 use crate::line::Ask;
 use crate::replies::kind_answered;
 use format::behind;
+use format::behind_shown;
 use format::kinds;
 use format::members;
 use paper::Line;
+use paper::Reading;
 use paper::Serial;
 use paper::Surface;
 use store::Store;
@@ -77,12 +79,12 @@ fn line_begun(msg: &[u8], reply: &[u8]) -> Line
 
 // Whether a begin whose tail stands at a place throws nothing away, or clears: its reply says "no output of prior
 // pictures", nothing is handed out, and no line is left.
-fn is_clear(left: Lines, reply: &[u8], at: usize) -> bool
+fn is_clear(st: Reading, left: Lines, reply: &[u8], at: usize) -> bool
     requires { ⌜ Good left × (at < 20000) ⌝ }
     ensures { λ r. ⌜ r ≡ clearing (readBegun (drop restPlace (now (reply .entry))))
-        (readTail (drop at (now (reply .entry)))) (view left) ⌝ }
+        (readTail st (drop at (now (reply .entry)))) (view left) ⌝ }
 {
-    let second = behind(reply, at, kinds::SHOWN_WIDTH);
+    let second = behind_shown(st, reply, at);
     let said = flag_bytes::bit3(wire::byte(reply, kinds::FLAGS_PLACE));
     let n = left.len;
     (wire::byte(reply, second) == 0) | (said & ((wire::byte(reply, at) == 0) & (n == 0)))
@@ -90,11 +92,11 @@ fn is_clear(left: Lines, reply: &[u8], at: usize) -> bool
 
 // Of the lines that a begin with n members leaves: 19 where it throws away and does not clear; 12 where a set names
 // none of them; else 0.
-fn left_part(l: Lines, reply: &[u8], n: usize) -> u8
+fn left_part(st: Reading, l: Lines, reply: &[u8], n: usize) -> u8
     requires { ⌜ Good l × (n ≤ 1275) ⌝ }
-    ensures { λ r. ⌜ r ≡ leftPart (view l) (now (reply .entry)) n ⌝ }
+    ensures { λ r. ⌜ r ≡ leftPart st (view l) (now (reply .entry)) n ⌝ }
 {
-    if !is_clear(l, reply, kinds::MEMBERS_PLACE + kinds::WORD * n) {
+    if !is_clear(st, l, reply, kinds::MEMBERS_PLACE + kinds::WORD * n) {
         return 19;
     }
     if names_known(l, reply, kinds::MEMBERS_PLACE, n) {
@@ -108,8 +110,9 @@ fn left_part(l: Lines, reply: &[u8], n: usize) -> u8
 // leaves.
 fn started(b: Book, msg: &[u8], reply: &[u8]) -> Heard
     requires { ⌜ Tidy b ⌝ }
-    ensures { λ r. ⌜ Judged b (now (msg .entry)) (startedIn (now (reply .entry))) r ⌝ }
+    ensures { λ r. ⌜ Judged b (now (msg .entry)) (startedIn (b .reading) (now (reply .entry))) r ⌝ }
 {
+    let st = b.reading;
     let c = b.current;
     let l = b.held;
     if !is_idle(c) {
@@ -125,7 +128,7 @@ fn started(b: Book, msg: &[u8], reply: &[u8]) -> Heard
         return Heard { part: 5, book: b };
     }
     let n = members(reply);
-    let t = tail(l, reply, kinds::MEMBERS_PLACE + kinds::WORD * n);
+    let t = tail(st, l, reply, kinds::MEMBERS_PLACE + kinds::WORD * n);
     if t.part != 0 {
         return Heard {
             part: t.part,
@@ -133,7 +136,7 @@ fn started(b: Book, msg: &[u8], reply: &[u8]) -> Heard
         };
     }
     let held = t.lines;
-    let part = left_part(held, reply, n);
+    let part = left_part(st, held, reply, n);
     if part != 0 {
         return Heard { part, book: b };
     }
@@ -143,6 +146,7 @@ fn started(b: Book, msg: &[u8], reply: &[u8]) -> Heard
         current: Slot::Is(e),
         begun: b.begun + 1,
         tally,
+        reading: st,
     };
     Heard { part: 0, book }
 }
@@ -168,11 +172,11 @@ fn listed(b: Book, reply: &[u8]) -> Heard
 }
 
 // Whether the tail at a place tells nothing.
-fn is_quiet(reply: &[u8], at: usize) -> bool
+fn is_quiet(st: Reading, reply: &[u8], at: usize) -> bool
     requires { ⌜ at < 20000 ⌝ }
-    ensures { λ r. ⌜ r ≡ none (events (readTail (drop at (now (reply .entry))))) ⌝ }
+    ensures { λ r. ⌜ r ≡ none (events (readTail st (drop at (now (reply .entry))))) ⌝ }
 {
-    let second = behind(reply, at, kinds::SHOWN_WIDTH);
+    let second = behind_shown(st, reply, at);
     let third = behind(reply, second, kinds::WORD_WIDTH);
     (wire::byte(reply, at) == 0)
         & ((wire::byte(reply, second) == 0) & (wire::byte(reply, third) == 0))
@@ -181,9 +185,10 @@ fn is_quiet(reply: &[u8], at: usize) -> bool
 // 14: an end of sequence moves something.
 fn ended(b: Book, reply: &[u8]) -> Heard
     requires { ⌜ Tidy b ⌝ }
-    ensures { λ r. ⌜ Ends b (readTail (drop restPlace (now (reply .entry)))) r ⌝ }
+    ensures { λ r. ⌜ Ends b (readTail (b .reading) (drop restPlace (now (reply .entry)))) r ⌝ }
 {
-    if is_quiet(reply, kinds::REST_PLACE) {
+    let st = b.reading;
+    if is_quiet(st, reply, kinds::REST_PLACE) {
         return Heard { part: 0, book: b };
     }
     Heard { part: 14, book: b }
@@ -192,13 +197,14 @@ fn ended(b: Book, reply: &[u8]) -> Heard
 // 13: no picture is current; the tail, of the current picture alone; 15: something is left.
 fn abandoned(b: Book, reply: &[u8]) -> Heard
     requires { ⌜ Tidy b ⌝ }
-    ensures { λ r. ⌜ Abandons b (readTail (drop restPlace (now (reply .entry)))) r ⌝ }
+    ensures { λ r. ⌜ Abandons b (readTail (b .reading) (drop restPlace (now (reply .entry)))) r ⌝ }
 {
+    let st = b.reading;
     let c = b.current;
     if is_idle(c) {
         return Heard { part: 13, book: b };
     }
-    let t = tail(joined(Lines::none(), c), reply, kinds::REST_PLACE);
+    let t = tail(st, joined(Lines::none(), c), reply, kinds::REST_PLACE);
     if t.part != 0 {
         return Heard {
             part: t.part,
@@ -216,6 +222,7 @@ fn abandoned(b: Book, reply: &[u8]) -> Heard
         current: Slot::Idle,
         begun: b.begun,
         tally,
+        reading: st,
     };
     Heard { part: 0, book }
 }
@@ -224,18 +231,19 @@ fn abandoned(b: Book, reply: &[u8]) -> Heard
 // away; the tail; 15: something is left by one that leaves nothing; 16: more is stored than a store holds.
 fn landed(b: Book, kind: u16, reply: &[u8]) -> Heard
     requires { ⌜ Tidy b ⌝ }
-    ensures { λ r. ⌜ Lands b kind (readTail (drop restPlace (now (reply .entry)))) r ⌝ }
+    ensures { λ r. ⌜ Lands b kind (readTail (b .reading) (drop restPlace (now (reply .entry)))) r ⌝ }
 {
+    let st = b.reading;
     let c = b.current;
     let l = b.held;
     if (kind == kinds::FINISH) & is_idle(c) {
         return Heard { part: 13, book: b };
     }
-    let second = behind(reply, kinds::REST_PLACE, kinds::SHOWN_WIDTH);
+    let second = behind_shown(st, reply, kinds::REST_PLACE);
     if !(kind == kinds::DISCARD) & !(wire::byte(reply, second) == 0) {
         return Heard { part: 9, book: b };
     }
-    let t = tail(joined(l, c), reply, kinds::REST_PLACE);
+    let t = tail(st, joined(l, c), reply, kinds::REST_PLACE);
     if t.part != 0 {
         return Heard {
             part: t.part,
@@ -256,6 +264,7 @@ fn landed(b: Book, kind: u16, reply: &[u8]) -> Heard
         current: Slot::Idle,
         begun: b.begun,
         tally,
+        reading: st,
     };
     Heard { part: 0, book }
 }
@@ -263,7 +272,7 @@ fn landed(b: Book, kind: u16, reply: &[u8]) -> Heard
 // The kinds that hold a tail alone.
 fn done(b: Book, msg: &[u8], reply: &[u8]) -> Heard
     requires { ⌜ Tidy b ⌝ }
-    ensures { λ r. ⌜ Judged b (now (msg .entry)) (doneIn (now (reply .entry))) r ⌝ }
+    ensures { λ r. ⌜ Judged b (now (msg .entry)) (doneIn (b .reading) (now (reply .entry))) r ⌝ }
 {
     let kind = kind_answered(reply);
     match kind {
@@ -273,10 +282,10 @@ fn done(b: Book, msg: &[u8], reply: &[u8]) -> Heard
     }
 }
 
-// The part of demand 3 that a whole reply breaks, or 0 and the book after it, but for the tally.
+// The part of demand 3 that a whole reply breaks, or 0 and the book after it, but for the tally and the reading.
 pub(crate) fn judge(b: Book, msg: &[u8], reply: &[u8]) -> Heard
     requires { ⌜ Tidy b ⌝ }
-    ensures { λ r. ⌜ Judged b (now (msg .entry)) (readReply (now (reply .entry))) r ⌝ }
+    ensures { λ r. ⌜ Judged b (now (msg .entry)) (readReply (b .reading) (now (reply .entry))) r ⌝ }
 {
     if wire::u16_at(reply, kinds::NUMBER_PLACE) != 0 {
         return Heard { part: 0, book: b };

@@ -1,9 +1,11 @@
 // The reply's bytes: whether they answer the record, and what they tell of numbers.
 use crate::Book;
 use crate::Tally;
-use format::behind;
+use format::behind_shown;
+use format::further;
 use format::kinds;
 use format::tail_place;
+use paper::Reading;
 ghost use mathlib.Core.Path.{_≡_};
 ghost use mathlib.Core.Bool.{cond};
 ghost use Prim.Native.Nat.{_+_, _-_, _<_, min};
@@ -12,7 +14,8 @@ ghost use Rattle.paper.specs.Numbers.{u16};
 ghost use Rattle.paper.specs.Kinds.{replyOffset, replyTo, malformedReply, numberPlace};
 ghost use Rattle.paper.specs.Records.{kindOf};
 ghost use Rattle.paper.specs.Ledger.{heard, readReply};
-ghost use Rattle.watch.specs.Book.{tallied, most, withTally};
+ghost use Rattle.paper.specs.declared.Reading.{Reading};
+ghost use Rattle.watch.specs.Book.{tallied, most, goneOn};
 
 // The kind of record that a reply kind answers.
 pub(crate) fn kind_answered(reply: &[u8]) -> u16
@@ -39,9 +42,10 @@ fn refusal_answers(msg: &[u8], reply: &[u8]) -> bool
     k as u32 == kinds::REPLY as u32 + wire::u16_at(msg, kinds::KIND_PLACE) as u32
 }
 
-// Whether the reply is one to that record.
+// Whether the reply is one to that record, whatever came before.
 pub(crate) fn answers(msg: &[u8], reply: &[u8]) -> bool
-    ensures { λ r. ⌜ r ≡ heard (now (msg .entry)) (readReply (now (reply .entry))) ⌝ }
+    ensures { λ r. ⌜ ((st : Reading)
+        → r ≡ heard (now (msg .entry)) (readReply st (now (reply .entry)))) ⌝ }
 {
     let k = wire::u16_at(msg, kinds::KIND_PLACE);
     if wire::u16_at(reply, kinds::NUMBER_PLACE) != 0 {
@@ -63,8 +67,8 @@ pub fn plus(a: u64, n: usize) -> u64
 }
 
 // The tally with what the reply tells.
-fn tally_of(t: Tally, reply: &[u8]) -> Tally
-    ensures { λ r. ⌜ r ≡ tallied t (readReply (now (reply .entry))) ⌝ }
+fn tally_of(st: Reading, t: Tally, reply: &[u8]) -> Tally
+    ensures { λ r. ⌜ r ≡ tallied t (readReply st (now (reply .entry))) ⌝ }
 {
     if wire::u16_at(reply, kinds::NUMBER_PLACE) != 0 {
         return Tally {
@@ -81,7 +85,7 @@ fn tally_of(t: Tally, reply: &[u8]) -> Tally
         };
     }
     let at = tail_place(reply);
-    let second = behind(reply, at, kinds::SHOWN_WIDTH);
+    let second = behind_shown(st, reply, at);
     Tally {
         handed: plus(t.handed, wire::byte(reply, at) as usize),
         thrown: plus(t.thrown, wire::byte(reply, second) as usize),
@@ -89,18 +93,21 @@ fn tally_of(t: Tally, reply: &[u8]) -> Tally
     }
 }
 
-// The book with its tally gone on.
+// The book with its tally and its reading gone on.
 pub(crate) fn counted(b: Book, reply: &[u8]) -> Book
-    ensures { λ r. ⌜ r ≡ withTally b (tallied (b .tally) (readReply (now (reply .entry)))) ⌝ }
+    ensures { λ r. ⌜ r ≡ goneOn b (now (reply .entry)) ⌝ }
 {
+    let st = b.reading;
     let held = b.held;
     let current = b.current;
     let t = b.tally;
-    let tally = tally_of(t, reply);
+    let tally = tally_of(st, t, reply);
+    let reading = further(st, reply);
     Book {
         held,
         current,
         begun: b.begun,
         tally,
+        reading,
     }
 }

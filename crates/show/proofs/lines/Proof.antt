@@ -11,13 +11,13 @@ use Rattle.show.proofs.lines.Statement.{statement}
 use Rattle.show.proofs.lines.Tie as tie
 
 abbrev Inv-loop : tie.InvT-loop
-Inv-loop number bytes out₀ next₀ taken₀ made₀ out next taken made = (taken ≤ length bytes) × (made ≤ length out) × (length out ≡ length out₀) × Lines number bytes next taken made out₀ out
+Inv-loop number bytes out₀ reading₀ next₀ taken₀ made₀ out reading next taken made = (taken ≤ length bytes) × (made ≤ length out) × (length out ≡ length out₀) × Lines reading₀ number bytes reading next taken made out₀ out
 
 abbrev μ-loop : tie.MeasureT-loop
-μ-loop number bytes out₀ next₀ taken₀ made₀ out next taken made = length bytes - taken
+μ-loop number bytes out₀ reading₀ next₀ taken₀ made₀ out reading next taken made = length bytes - taken
 
 loop-holds : tie.Need-loop-holds Inv-loop μ-loop
-loop-holds c = (omega arith, omega arith, refl, nothing-yet _ _ _)
+loop-holds c = (omega arith, omega arith, refl, nothing-yet _ _ _ _)
 
 add-loop : tie.Need-add-loop Inv-loop μ-loop
 add-loop c = search needs
@@ -67,29 +67,43 @@ add-made c =
     let l = c .before .before .before .before .before .before .before .before .before .loop in
     let a = c .before .before .line-at in
     let k : l .made + a .result ≤ length (l .out) = a .ensures .fits in
-    let g = c .before .before .before .before .before .before .before .before .before .before .before .before .good .1 .1 .0 in
+    let g = c .before .before .before .before .before .before .before .before .before .before .before .before .good .1 .1 .1 .0 in
     omega (arith, k, l .inv .2, g)
+
+sub-further : tie.Need-sub-further Inv-loop μ-loop
+sub-further c = search needs
+
+part-further-start : tie.Need-part-further-start Inv-loop μ-loop
+part-further-start c = search needs
+
+part-further-end : tie.Need-part-further-end Inv-loop μ-loop
+part-further-end c =
+    let l = c .before .before .before .before .before .before .before .before .before .loop in
+    size-end (c .before .before .before .before .before .before .before .before .before .before .before .before .args .bytes .now) (l .taken) (c .before .before .before .before .before .before .size .ensures) (l .inv .0)
+
+further-requires : tie.Need-further-requires Inv-loop μ-loop
+further-requires c κs = search needs
 
 following-requires : tie.Need-following-requires Inv-loop μ-loop
 following-requires c κs = search needs
 
 loop-less : tie.Need-loop-less Inv-loop μ-loop
 loop-less c =
-    let l = c .before .before .before .before .before .before .before .before .before .before .loop in
-    let k = size-end (c .before .before .before .before .before .before .before .before .before .before .before .before .before .args .bytes .now) (l .taken) (c .before .before .before .before .before .before .before .size .ensures) (l .inv .0) in
-    let h = c .before .before .before .before .before .before .if1 .left in
+    let l = c .before .before .before .before .before .before .before .before .before .before .before .before .loop in
+    let k = size-end (c .before .before .before .before .before .before .before .before .before .before .before .before .before .before .before .args .bytes .now) (l .taken) (c .before .before .before .before .before .before .before .before .before .size .ensures) (l .inv .0) in
+    let h = c .before .before .before .before .before .before .before .before .if1 .left in
     omega (arith, k, h)
 
 loop-again : tie.Need-loop-again Inv-loop μ-loop
 loop-again c =
-    let l = c .before .before .before .before .before .before .before .before .before .before .loop in
-    let n = c .before .before .before .before .before .before .before .size in
-    let k = size-end (c .before .before .before .before .before .before .before .before .before .before .before .before .before .args .bytes .now) (l .taken) (n .ensures) (l .inv .0) in
-    let h = c .before .before .before .before .before .before .if1 .left in
-    let a = c .before .before .before .line-at in
-    let s = a .kept .1 .1 .0 in
+    let l = c .before .before .before .before .before .before .before .before .before .before .before .before .loop in
+    let n = c .before .before .before .before .before .before .before .before .before .size in
+    let k = size-end (c .before .before .before .before .before .before .before .before .before .before .before .before .before .before .before .args .bytes .now) (l .taken) (n .ensures) (l .inv .0) in
+    let h = c .before .before .before .before .before .before .before .before .if1 .left in
+    let a = c .before .before .before .before .before .line-at in
+    let s = a .kept .1 .1 .1 .0 in
     let f = a .ensures .fits in
-    (k, omega (arith, f, s), s ∙ l .inv .2, one-lined (l .taken) (l .made) (n .result) _ (omega (arith, h)) (size-at _ (l .taken) (n .ensures)) (c .following .ensures) (l .inv .3) (a .ensures))
+    (k, omega (arith, f, s), s ∙ l .inv .2, one-lined (l .taken) (l .made) (n .result) _ (omega (arith, h)) (size-at _ (l .taken) (n .ensures)) (c .following .ensures) (c .before .further .ensures) (l .inv .3) (a .ensures))
 
 same-length-2 : tie.Need-same-length-2 Inv-loop μ-loop
 same-length-2 c = search needs
@@ -119,6 +133,10 @@ lines-spec =
     part-line-at-end
     line-at-requires
     add-made
+    sub-further
+    part-further-start
+    part-further-end
+    further-requires
     following-requires
     loop-less
     loop-again

@@ -19,8 +19,11 @@ Inv-loop input₀ output₀ t₀ left₀ input output t left =
 abbrev μ-loop : tie.MeasureT-loop
 μ-loop input₀ output₀ t₀ left₀ input output t left = left
 
+opening-requires : tie.Need-opening-requires Inv-loop μ-loop
+opening-requires c κs = search needs
+
 loop-holds : tie.Need-loop-holds Inv-loop μ-loop
-loop-holds c = (omega arith, refl, refl, refl, starts Starts Turns _ (refl, refl, refl))
+loop-holds c = (omega arith, refl, refl, refl, starts Starts Turns _ (refl, refl, refl, c .opening .ensures))
 
 turn-requires : tie.Need-turn-requires Inv-loop μ-loop
 turn-requires c κs = search needs
@@ -33,7 +36,7 @@ same-length-2 c = search needs
 
 returns : tie.Need-returns Inv-loop μ-loop
 returns c =
-    let l = c .before .before .before .before .before .before .before .before .before .before .loop in
+    let l = c .before .before .before .before .before .before .before .before .before .before .before .loop in
     let t = c .before .before .before .before .before .before .turn in
     shows _ (one-turn Starts Turns _ _ (l .inv .4) (l .inv .3, t .ensures .1))
 
@@ -45,7 +48,7 @@ loop-less c = search needs
 
 loop-again : tie.Need-loop-again Inv-loop μ-loop
 loop-again c =
-    let l = c .before .before .before .before .before .before .before .before .before .before .loop in
+    let l = c .before .before .before .before .before .before .before .before .before .before .before .loop in
     let t = c .before .before .before .before .before .before .turn in
     (search needs, search needs, search needs, yes-of (t .result .more) (c .if1 .left), one-turn Starts Turns _ _ (l .inv .4) (l .inv .3, t .ensures .1))
 
@@ -64,6 +67,7 @@ run-spec =
     (tie.spec
     Inv-loop
     μ-loop
+    opening-requires
     loop-holds
     turn-requires
     same-length

@@ -43,8 +43,8 @@ returns c =
     let held = st .args .held in
     let input = st .args .input .now in
     let a = call .lines in
-    let output = a .last .1 .1 .0 in
-    let e : length output ≡ length (st .args .output .now) = a .kept .1 .1 .0 in
+    let output = a .last .1 .1 .1 .0 in
+    let e : length output ≡ length (st .args .output .now) = a .kept .1 .1 .1 .0 in
     let none = tested .if1 .taken in
     let g = a .ensures .1 .0 in
     let w = none-written none g in
@@ -58,7 +58,7 @@ slice-reshare-prefix-write-all : tie.Need-slice-reshare-prefix-write-all
 slice-reshare-prefix-write-all c = search needs
 
 slice-aggregate-write-all : tie.Need-slice-aggregate-write-all
-slice-aggregate-write-all c = let a = c .before .before .before .before .lines in sym (length-take-le (a .result .made) (a .last .1 .1 .0) (a .ensures .0 .1))
+slice-aggregate-write-all c = let a = c .before .before .before .before .before .lines in sym (length-take-le (a .result .made) (a .last .1 .1 .1 .0) (a .ensures .0 .1))
 
 write-all-requires : tie.Need-write-all-requires
 write-all-requires c κs = search needs
@@ -66,9 +66,9 @@ write-all-requires c κs = search needs
 shift-requires : tie.Need-shift-requires
 shift-requires c κs = search needs
 
-sub-t24 : tie.Need-sub-t24
-sub-t24 c =
-    let call = c .before .before .before .before .before .before .before .before .before in
+sub-t26 : tie.Need-sub-t26
+sub-t26 c =
+    let call = c .before .before .before .before .before .before .before .before .before .before in
     let st = call .before .before .before .before .before in
     within (st .args .held) (st .args .input .now) (st .pre .0) (call .lines .ensures .0 .0)
 
@@ -80,7 +80,7 @@ same-length-4 c = search needs
 
 returns-2 : tie.Need-returns-2
 returns-2 c =
-    let tested = c .before .before .before .before .before .before in
+    let tested = c .before .before .before .before .before .before .before in
     let call = tested .before .before .before in
     let st = call .before .before .before .before .before in
     let a = call .lines .ensures in
@@ -102,7 +102,7 @@ turn-spec =
     slice-aggregate-write-all
     write-all-requires
     shift-requires
-    sub-t24
+    sub-t26
     same-length-3
     same-length-4
     returns-2)

@@ -12,34 +12,34 @@ is-whole-requires : tie.Need-is-whole-requires
 is-whole-requires c κs = search needs
 
 returns : tie.Need-returns
-returns c = let a = c .before .before .before .before .args in hears-1 (a .b) (now (a .msg)) (now (a .reply)) (sym (c .before .is-whole .ensures) ∙ flip _ (c .if1 .taken))
+returns c = let a = c .before .before .before .before .before .args in hears-1 (a .b) (now (a .msg)) (now (a .reply)) (sym (c .before .is-whole .ensures) ∙ flip _ (c .if1 .taken))
 
 answers-requires : tie.Need-answers-requires
 answers-requires c κs = search needs
 
 returns-2 : tie.Need-returns-2
-returns-2 c = let a = c .before .before .before .before .before .before .args in hears-2 (a .b) (now (a .msg)) (now (a .reply)) (sym (c .before .before .before .is-whole .ensures) ∙ flop _ (c .before .before .if1 .left)) (sym (c .before .answers .ensures) ∙ flip _ (c .if2 .taken))
+returns-2 c = let a = c .before .before .before .before .before .before .before .args in hears-2 (a .b) (now (a .msg)) (now (a .reply)) (sym (c .before .before .before .is-whole .ensures) ∙ flop _ (c .before .before .if1 .left)) (sym (c .before .answers .ensures (a .b .reading)) ∙ flip _ (c .if2 .taken))
 
 tidy-requires : tie.Need-tidy-requires
 tidy-requires c κs = search needs
 
 judge-requires : tie.Need-judge-requires
-judge-requires c κs = let a = c .before .before .before .before .before .before .before .args in tidied (a .b) (now (a .msg)) (now (a .reply)) (sym (c .before .before .before .before .is-whole .ensures) ∙ flop _ (c .before .before .before .if1 .left)) (sym (c .before .before .answers .ensures) ∙ flop _ (c .before .if2 .left)) (c .tidy .result) (c .tidy .ensures)
+judge-requires c κs = let a = c .before .before .before .before .before .before .before .before .args in tidied (a .b) (now (a .msg)) (now (a .reply)) (sym (c .before .before .before .before .is-whole .ensures) ∙ flop _ (c .before .before .before .if1 .left)) (sym (c .before .before .answers .ensures (a .b .reading)) ∙ flop _ (c .before .if2 .left)) (c .tidy .result) (c .tidy .ensures)
 
 returns-3 : tie.Need-returns-3
 returns-3 c =
-    let a = c .before .before .before .before .before .before .before .before .before .before .args in
+    let a = c .before .before .before .before .before .before .before .before .before .before .before .args in
     let n : c .before .before .judge .result .part ≡ 0 → ⊥ = omega (arith, c .if3 .taken) in
-    hears-part (a .b) (now (a .msg)) (now (a .reply)) (sym (c .before .before .before .before .before .before .before .is-whole .ensures) ∙ flop _ (c .before .before .before .before .before .before .if1 .left)) (sym (c .before .before .before .before .before .answers .ensures) ∙ flop _ (c .before .before .before .before .if2 .left)) (c .before .before .before .tidy .result) (c .before .before .before .tidy .ensures) (c .before .before .judge .result) (c .before .before .judge .ensures) n
+    hears-part (a .b) (now (a .msg)) (now (a .reply)) (sym (c .before .before .before .before .before .before .before .is-whole .ensures) ∙ flop _ (c .before .before .before .before .before .before .if1 .left)) (sym (c .before .before .before .before .before .answers .ensures (a .b .reading)) ∙ flop _ (c .before .before .before .before .if2 .left)) (c .before .before .before .tidy .result) (c .before .before .before .tidy .ensures) (c .before .before .judge .result) (c .before .before .judge .ensures) n
 
 counted-requires : tie.Need-counted-requires
 counted-requires c κs = search needs
 
 returns-4 : tie.Need-returns-4
 returns-4 c =
-    let a = c .before .before .before .before .before .before .before .before .before .before .before .before .args in
+    let a = c .before .before .before .before .before .before .before .before .before .before .before .before .before .args in
     let z : c .before .before .before .before .judge .result .part ≡ 0 = omega (arith, c .before .before .if3 .left) in
-    hears-0 (a .b) (now (a .msg)) (now (a .reply)) (sym (c .before .before .before .before .before .before .before .before .before .is-whole .ensures) ∙ flop _ (c .before .before .before .before .before .before .before .before .if1 .left)) (sym (c .before .before .before .before .before .before .before .answers .ensures) ∙ flop _ (c .before .before .before .before .before .before .if2 .left)) (c .before .before .before .before .before .tidy .result) (c .before .before .before .before .before .tidy .ensures) (c .before .before .before .before .judge .result) (c .before .before .before .before .judge .ensures) z (c .counted .result) (c .counted .ensures)
+    hears-0 (a .b) (now (a .msg)) (now (a .reply)) (sym (c .before .before .before .before .before .before .before .before .before .is-whole .ensures) ∙ flop _ (c .before .before .before .before .before .before .before .before .if1 .left)) (sym (c .before .before .before .before .before .before .before .answers .ensures (a .b .reading)) ∙ flop _ (c .before .before .before .before .before .before .if2 .left)) (c .before .before .before .before .before .tidy .result) (c .before .before .before .before .before .tidy .ensures) (c .before .before .before .before .judge .result) (c .before .before .before .before .judge .ensures) z (c .counted .result) (c .counted .ensures)
 
 pub hear-spec : {M : Type 1} → statement M
 hear-spec =

@@ -14,7 +14,11 @@ u16-at-requires : tie.Need-u16-at-requires
 u16-at-requires c κs = search needs
 
 returns : tie.Need-returns
-returns c = let a = now (c .before .before .before .args .reply) in let n : u16 a numberPlace ≡ 0 → ⊥ = omega arith in sym (end-refused a n)
+returns c =
+    let s = c .before .before .before .args in
+    let a = now (s .reply) in
+    let n : u16 a numberPlace ≡ 0 → ⊥ = omega arith in
+    sym (end-refused a (s .st) n)
 
 u16-at-requires-2 : tie.Need-u16-at-requires-2
 u16-at-requires-2 c κs = search needs
@@ -46,7 +50,7 @@ returns-2 c =
     let a = now (s .args .reply) in
     let z : u16 a numberPlace ≡ 0 = omega arith in
     let k : kindOf a ≡ replyTo listsKind = omega arith in
-    rw (c .before .byte .ensures, c .byte2 .ensures) (sym (end-lists a z k))
+    rw (c .before .byte .ensures, c .byte2 .ensures) (sym (end-lists (s .args .st) a z k))
 
 tail-place-requires : tie.Need-tail-place-requires
 tail-place-requires c κs = search needs
@@ -60,7 +64,7 @@ returns-3 c =
     let a = now (s .args .reply) in
     let z : u16 a numberPlace ≡ 0 = omega arith in
     let k : kindOf a ≡ replyTo listsKind → ⊥ = omega arith in
-    rw (c .tail-end .ensures, c .before .tail-place .ensures .0) (sym (end-tail a z k))
+    rw (c .tail-end .ensures, c .before .tail-place .ensures .0) (sym (end-tail (s .args .st) a z k))
 
 pub reply-end-spec : {M : Type 1} → statement M
 reply-end-spec =

@@ -1,10 +1,13 @@
 -- Nothing, or the name, the first picture and the rest.
-use mathlib.Core.Path.{sym}
+use Prim.Native.Nat.{ℕ, _+_, _-_}
+use mathlib.Core.Path.{sym, ap}
 use borrow.Author.Needs.{needs}
 use native.Mathlib.Omega.{arith}
 use lib.ListN.{drop}
+use Rattle.paper.specs.Words.{flat}
+use Rattle.paper.specs.Ledger.{readShown}
 use Rattle.show.specs.Text.{ascii}
-use Rattle.show.specs.Lists.{shownText}
+use Rattle.show.specs.Lists.{behindComma, shownText}
 use Rattle.show.proofs.Spelling.{_then_, retold, roomier, blank}
 use Rattle.show.proofs.Places.{no-shown, some-shown}
 use Rattle.show.proofs.lists.put_handed.Statement.{statement}
@@ -13,7 +16,7 @@ use Rattle.show.proofs.lists.put_handed.Tie as tie
 returns : tie.Need-returns
 returns c =
     let a = c .before .before .before .args in
-    retold (sym (no-shown (ascii " handed=") shownText (drop (a .from) (a .reply .now)) (c .if1 .taken))) (blank (a .d .now) (a .at) _)
+    retold (sym (no-shown (a .st) (ascii " handed=") shownText (drop (a .from) (a .reply .now)) (c .if1 .taken))) (blank (a .d .now) (a .at) _)
 
 slice-aggregate-put : tie.Need-slice-aggregate-put
 slice-aggregate-put c = search needs
@@ -23,6 +26,12 @@ put-requires c κs = search needs
 
 put-shown-requires : tie.Need-put-shown-requires
 put-shown-requires c κs = search needs
+
+shown-width-requires : tie.Need-shown-width-requires
+shown-width-requires c κs = search needs
+
+cast-put-more-shown : tie.Need-cast-put-more-shown
+cast-put-more-shown c = search needs
 
 add-put-more-shown : tie.Need-add-put-more-shown
 add-put-more-shown c = search needs
@@ -38,9 +47,10 @@ same-length c = search needs
 
 returns-2 : tie.Need-returns-2
 returns-2 c =
-    let a = c .before .before .before .before .before .before .before .before .before .before .before .before .before .before .before .before .args in
-    let all = c .before .before .before .before .before .before .before .before .before .before .put .ensures then c .before .before .before .before .before .before .put-shown .ensures then c .before .before .put-more-shown .ensures in
-    retold (sym (some-shown (ascii " handed=") shownText (a .reply .now) (a .from) (a .n) (omega arith))) (roomier (omega arith) all)
+    let a = c .before .before .before .before .before .before .before .before .before .before .before .before .before .before .before .before .before .args in
+    let rest = retold (ap (λ (w : ℕ). flat (behindComma shownText) (readShown (a .st) (a .n - 1) (drop (a .from + w) (a .reply .now)))) (c .before .before .before .shown-width .ensures)) (c .before .before .put-more-shown .ensures) in
+    let all = c .before .before .before .before .before .before .before .before .before .before .before .put .ensures then c .before .before .before .before .before .before .before .put-shown .ensures then rest in
+    retold (sym (some-shown (a .st) (ascii " handed=") shownText (a .reply .now) (a .from) (a .n) (omega arith))) (roomier (omega arith) all)
 
 pub put-handed-spec : {M : Type 1} → statement M
 put-handed-spec =
@@ -50,6 +60,8 @@ put-handed-spec =
     slice-aggregate-put
     put-requires
     put-shown-requires
+    shown-width-requires
+    cast-put-more-shown
     add-put-more-shown
     sub-put-more-shown
     put-more-shown-requires

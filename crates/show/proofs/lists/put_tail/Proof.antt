@@ -1,9 +1,12 @@
 -- Each part stands behind the one before it.
-use mathlib.Core.Path.{sym}
+use Prim.Native.Nat.{_+_, _*_}
+use mathlib.Core.Path.{_≡_, sym, _∙_}
 use borrow.Author.Needs.{needs}
 use native.Mathlib.Omega.{arith}
 use Rattle.show.proofs.Spelling.{_then_, retold, roomier}
-use Rattle.show.proofs.Places.{tail-at}
+use Rattle.format.proofs.Ends.{past-count}
+use Rattle.paper.specs.Kinds.{shownWidth}
+use Rattle.show.proofs.Places.{tail-behind}
 use Rattle.show.proofs.lists.put_tail.Statement.{statement}
 use Rattle.show.proofs.lists.put_tail.Tie as tie
 
@@ -19,14 +22,8 @@ add-put-handed c = search needs
 put-handed-requires : tie.Need-put-handed-requires
 put-handed-requires c κs = search needs
 
-add-b : tie.Need-add-b
-add-b c = search needs
-
-mul-b : tie.Need-mul-b
-mul-b c = search needs
-
-add-b-2 : tie.Need-add-b-2
-add-b-2 c = search needs
+behind-shown-requires : tie.Need-behind-shown-requires
+behind-shown-requires c κs = search needs
 
 byte-requires-2 : tie.Need-byte-requires-2
 byte-requires-2 c κs = search needs
@@ -72,9 +69,16 @@ same-length c = search needs
 
 returns : tie.Need-returns
 returns c =
-    let a = c .before .before .before .before .before .before .before .before .before .before .before .before .before .before .before .before .before .before .before .args in
-    let all = c .before .before .before .before .before .before .before .before .before .before .before .before .before .before .put-handed .ensures then c .before .before .before .before .before .before .before .before .put-list .ensures then c .before .before .put-list2 .ensures in
-    retold (sym (tail-at (a .reply .now) (a .from) (c .before .before .before .before .before .before .before .before .before .before .before .before .before .before .before .before .byte .result) (c .before .before .before .before .before .before .before .before .before .before .before .byte2 .result) (c .before .before .before .before .before .byte3 .result) (c .before .before .before .before .before .before .before .before .before .before .before .before .before .before .before .before .byte .ensures) (c .before .before .before .before .before .before .before .before .before .before .before .byte2 .ensures) (c .before .before .before .before .before .byte3 .ensures))) (roomier (omega arith) all)
+    let s = c .before .before .before .before .before .before .before .before .before .before .before .before .before .before .before .before .before .before .before .before in
+    let a = s .args in
+    let b = c .before .before .before .before .before .before .before .before .before .before .before .before .behind-shown in
+    let h = c .before .before .before .before .before .before .before .before .before .before .before .before .before .before .before .before .before .byte in
+    let t = c .before .before .before .before .before .before .before .before .before .before .before .byte2 in
+    let r = c .before .before .before .before .before .byte3 in
+    let all = c .before .before .before .before .before .before .before .before .before .before .before .before .before .before .before .put-handed .ensures then c .before .before .before .before .before .before .before .before .put-list .ensures then c .before .before .put-list2 .ensures in
+    let k = b .ensures .0 ∙ past-count shownWidth (a .reply .now) (a .from) (omega (arith, s .pre .0)) in
+    let e : b .result ≡ a .from + 1 + shownWidth * h .result = omega (arith, k, h .ensures) in
+    retold (sym (tail-behind (a .st) (a .reply .now) (a .from) (h .result) (b .result) (t .result) (r .result) e (h .ensures) (t .ensures) (r .ensures))) (roomier (omega arith) all)
 
 pub put-tail-spec : {M : Type 1} → statement M
 put-tail-spec =
@@ -84,9 +88,7 @@ put-tail-spec =
     cast-handed
     add-put-handed
     put-handed-requires
-    add-b
-    mul-b
-    add-b-2
+    behind-shown-requires
     byte-requires-2
     cast-thrown
     slice-aggregate-put-list

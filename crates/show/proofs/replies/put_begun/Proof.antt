@@ -34,7 +34,7 @@ same-length c = search needs
 returns : tie.Need-returns
 returns c =
     let m = c .before .before .before .before .before .before .before .before .before .before .before .before .members in
-    let tail = retold (ap (λ (l : List ℕ). tailText (readTail l)) (begun-tail (c .before .before .before .before .before .before .before .before .before .before .before .before .before .before .before .args .reply .now) (m .result) (m .ensures .0))) (c .before .before .put-tail .ensures) in
+    let tail = retold (ap (λ (l : List ℕ). tailText (readTail (c .before .before .before .before .before .before .before .before .before .before .before .before .before .before .before .args .st) l)) (begun-tail (c .before .before .before .before .before .before .before .before .before .before .before .before .before .before .before .args .reply .now) (m .result) (m .ensures .0))) (c .before .before .put-tail .ensures) in
     c .before .before .before .before .before .before .before .before .before .before .put-told .ensures then c .before .before .before .before .before .before .put-sets .ensures then tail
 
 pub put-begun-spec : {M : Type 1} → statement M

@@ -19,15 +19,15 @@ use Rattle.watch.proofs.events.run.Statement.{statement}
 use Rattle.watch.proofs.events.run.Tie as tie
 
 abbrev Inv-loop : tie.InvT-loop
-Inv-loop p reply at n step lines₀ place₀ i₀ lines place i =
+Inv-loop st p reply at n step lines₀ place₀ i₀ lines place i =
     (i ≤ n)
     × ((place ≤ at + shownWidth * i)
     × (Good lines
-    × ((tailPart (eventsOf p (n - i) (drop place reply)) (view lines) ≡ tailPart (eventsOf p n (drop at reply)) (view lines₀))
-    × (uponAll (eventsOf p (n - i) (drop place reply)) (view lines) ≡ uponAll (eventsOf p n (drop at reply)) (view lines₀)))))
+    × ((tailPart (eventsOf st p (n - i) (drop place reply)) (view lines) ≡ tailPart (eventsOf st p n (drop at reply)) (view lines₀))
+    × (uponAll (eventsOf st p (n - i) (drop place reply)) (view lines) ≡ uponAll (eventsOf st p n (drop at reply)) (view lines₀)))))
 
 abbrev μ-loop : tie.MeasureT-loop
-μ-loop p reply at n step lines₀ place₀ i₀ lines place i = n - i
+μ-loop st p reply at n step lines₀ place₀ i₀ lines place i = n - i
 
 size-requires : tie.Need-size-requires Inv-loop μ-loop
 size-requires c κs = tt
@@ -51,7 +51,7 @@ returns c =
     let n : c .before .event-part .result ≡ 0 → ⊥ = omega arith in
     let e = c .before .before .event-at .ensures in
     let q : eventPart (eventIn (c .before .before .event-at .result)) (view (k .loop .lines)) ≡ 0 → ⊥ = λ z. n (c .before .event-part .ensures ∙ z) in
-    stops (c .before .event-part .ensures ∙ run-stops (s .args .p) (now (s .args .reply)) (k .loop .place) (s .args .n) (k .loop .i) _ [] (k .loop .lines) (eventIn (c .before .before .event-at .result)) e q (omega arith) (k .loop .inv .1 .1 .1 .0)) n
+    stops (c .before .event-part .ensures ∙ run-stops (s .args .st) (s .args .p) (now (s .args .reply)) (k .loop .place) (s .args .n) (k .loop .i) _ [] (k .loop .lines) (eventIn (c .before .before .event-at .result)) e q (omega arith) (k .loop .inv .1 .1 .1 .0)) n
 
 after-requires : tie.Need-after-requires Inv-loop μ-loop
 after-requires c κs = tt
@@ -71,14 +71,14 @@ loop-again c =
     let s = c .before .before .before .before .before .before .before .before in
     let e = c .before .before .before .event-at .ensures in
     let z : c .before .before .event-part .result ≡ 0 = omega arith in
-    let g = run-again (s .args .p) (now (s .args .reply)) (k .loop .place) (s .args .n) (k .loop .i) _ _ (k .loop .lines) (eventIn (c .before .before .before .event-at .result)) (c .before .before .before .before .before .before .size .result) (c .after .result) (c .before .before .before .before .before .before .size .ensures .0) e (sym (c .before .before .event-part .ensures) ∙ z) (omega arith) (c .after .ensures) (k .loop .inv .1 .1 .1 .0) (k .loop .inv .1 .1 .1 .1) in
+    let g = run-again (s .args .st) (s .args .p) (now (s .args .reply)) (k .loop .place) (s .args .n) (k .loop .i) _ _ (k .loop .lines) (eventIn (c .before .before .before .event-at .result)) (c .before .before .before .before .before .before .size .result) (c .after .result) (c .before .before .before .before .before .before .size .ensures .0) e (sym (c .before .before .event-part .ensures) ∙ z) (omega arith) (c .after .ensures) (k .loop .inv .1 .1 .1 .0) (k .loop .inv .1 .1 .1 .1) in
     (omega arith, (omega (arith, c .before .before .before .before .before .before .size .ensures .1), (is-good (c .after .ensures), g)))
 
 returns-2 : tie.Need-returns-2 Inv-loop μ-loop
 returns-2 c =
     let k = c .before in
     let s = c .before .before .before .before in
-    let g = run-ends (s .args .p) (now (s .args .reply)) (k .loop .place) (s .args .n) (k .loop .i) _ _ (k .loop .lines) (omega arith) (k .loop .inv .1 .1 .1 .0) (k .loop .inv .1 .1 .1 .1) in
+    let g = run-ends (s .args .st) (s .args .p) (now (s .args .reply)) (k .loop .place) (s .args .n) (k .loop .i) _ _ (k .loop .lines) (omega arith) (k .loop .inv .1 .1 .1 .0) (k .loop .inv .1 .1 .1 .1) in
     record { part = g .0; lines = λ _. rw (g .1) at (k .loop .inv .1 .1 .0) }
 
 pub run-spec : {M : Type 1} → statement M

@@ -20,7 +20,7 @@ run-requires c κs = search needs
 returns : tie.Need-returns
 returns c =
     let s = c .before .before .before in
-    rw (counted-is (s .args .p) (s .args .at) (now (s .args .reply)), ← c .before .byte .ensures) (c .run .ensures)
+    rw (counted-is (s .args .st) (s .args .p) (s .args .at) (now (s .args .reply)), ← c .before .byte .ensures) (c .run .ensures)
 
 pub run-counted-spec : {M : Type 1} → statement M
 run-counted-spec = tie.close (tie.spec byte-requires cast-n add-run run-requires returns)

@@ -9,6 +9,12 @@ use Rattle.watch.proofs.events.size.Tie as tie
 enum-told : tie.Need-enum-told
 enum-told c = search needs
 
+shown-width-requires : tie.Need-shown-width-requires
+shown-width-requires c κs = search needs
+
+cast-result : tie.Need-cast-result
+cast-result c = search needs
+
 enum-told-2 : tie.Need-enum-told-2
 enum-told-2 c = search needs
 
@@ -17,7 +23,7 @@ enum-told-3 c = search needs
 
 returns : tie.Need-returns
 unfolding sizeOf
-returns c = rw (c .enum-told .given .1) (refl, omega arith)
+returns c = rw (c .before .enum-told .given .1) (c .shown-width .ensures, omega arith)
 
 returns-2 : tie.Need-returns-2
 unfolding sizeOf
@@ -28,4 +34,4 @@ unfolding sizeOf
 returns-3 c = rw (c .enum-told3 .given .1) (refl, omega arith)
 
 pub size-spec : {M : Type 1} → statement M
-size-spec = tie.close (tie.spec enum-told enum-told-2 enum-told-3 returns returns-2 returns-3)
+size-spec = tie.close (tie.spec enum-told shown-width-requires cast-result enum-told-2 enum-told-3 returns returns-2 returns-3)

@@ -15,7 +15,7 @@ is-idle-requires : tie.Need-is-idle-requires
 is-idle-requires c κs = search needs
 
 returns : tie.Need-returns
-returns c = abandons-13 (c .before .before .before .args .b) (readTail (drop restPlace (now (c .before .before .before .args .reply)))) (sym (c .before .is-idle .ensures) ∙ c .if1 .taken)
+returns c = abandons-13 (c .before .before .before .before .args .b) (readTail (c .before .before .before .before .args .b .reading) (drop restPlace (now (c .before .before .before .before .args .reply)))) (sym (c .before .is-idle .ensures) ∙ c .if1 .taken)
 
 none-requires : tie.Need-none-requires
 none-requires c κs = search needs
@@ -28,26 +28,26 @@ tail-requires c κs = (is-good (c .joined .ensures), omega arith)
 
 returns-2 : tie.Need-returns-2
 returns-2 c =
-    let a = c .before .before .before .before .before .before .before .before .args in
+    let a = c .before .before .before .before .before .before .before .before .before .args in
     let z : c .before .before .tail .result .part ≡ 0 → ⊥ = omega (arith, c .if2 .taken) in
     let g = rw (is-view (c .before .before .before .joined .ensures), is-view (c .before .before .before .before .none .ensures)) at (c .before .before .tail .ensures) in
-    abandons-tail (a .b) (readTail (drop restPlace (now (a .reply)))) (sym (c .before .before .before .before .before .before .is-idle .ensures) ∙ c .before .before .before .before .before .if1 .left) (c .before .before .tail .result) g z
+    abandons-tail (a .b) (readTail (a .b .reading) (drop restPlace (now (a .reply)))) (sym (c .before .before .before .before .before .before .is-idle .ensures) ∙ c .before .before .before .before .before .if1 .left) (c .before .before .tail .result) g z
 
 returns-3 : tie.Need-returns-3
 returns-3 c =
-    let a = c .before .before .before .before .before .before .before .before .before .before .before .args in
+    let a = c .before .before .before .before .before .before .before .before .before .before .before .before .args in
     let z : c .before .before .before .before .before .tail .result .part ≡ 0 = omega (arith, c .before .before .before .if2 .left) in
     let n : c .before .before .before .before .before .tail .result .lines .len ≡ 0 → ⊥ = omega (arith, c .if3 .taken) in
     let g = rw (is-view (c .before .before .before .before .before .before .joined .ensures), is-view (c .before .before .before .before .before .before .before .none .ensures)) at (c .before .before .before .before .before .tail .ensures) in
-    abandons-15 (a .b) (readTail (drop restPlace (now (a .reply)))) (sym (c .before .before .before .before .before .before .before .before .before .is-idle .ensures) ∙ c .before .before .before .before .before .before .before .before .if1 .left) (c .before .before .before .before .before .tail .result) g z n
+    abandons-15 (a .b) (readTail (a .b .reading) (drop restPlace (now (a .reply)))) (sym (c .before .before .before .before .before .before .before .before .before .is-idle .ensures) ∙ c .before .before .before .before .before .before .before .before .if1 .left) (c .before .before .before .before .before .tail .result) g z n
 
 returns-4 : tie.Need-returns-4
 returns-4 c =
-    let a = c .before .before .before .before .before .before .before .before .before .before .before .before .before .args in
+    let a = c .before .before .before .before .before .before .before .before .before .before .before .before .before .before .args in
     let z : c .before .before .before .before .before .before .before .tail .result .part ≡ 0 = omega (arith, c .before .before .before .before .before .if2 .left) in
     let n : c .before .before .before .before .before .before .before .tail .result .lines .len ≡ 0 = omega (arith, c .before .before .if3 .left) in
     let g = rw (is-view (c .before .before .before .before .before .before .before .before .joined .ensures), is-view (c .before .before .before .before .before .before .before .before .before .none .ensures)) at (c .before .before .before .before .before .before .before .tail .ensures) in
-    abandons-0 (a .b) (readTail (drop restPlace (now (a .reply)))) (sym (c .before .before .before .before .before .before .before .before .before .before .before .is-idle .ensures) ∙ c .before .before .before .before .before .before .before .before .before .before .if1 .left) (c .before .before .before .before .before .before .before .tail .result) g z (c .before .before .before .before .before .before .before .before .before .before .before .before .before .pre) n
+    abandons-0 (a .b) (readTail (a .b .reading) (drop restPlace (now (a .reply)))) (sym (c .before .before .before .before .before .before .before .before .before .before .before .is-idle .ensures) ∙ c .before .before .before .before .before .before .before .before .before .before .if1 .left) (c .before .before .before .before .before .before .before .tail .result) g z (c .before .before .before .before .before .before .before .before .before .before .before .before .before .before .pre) n
 
 pub abandoned-spec : {M : Type 1} → statement M
 abandoned-spec =

@@ -10,8 +10,8 @@ use Rattle.paper.specs.Kinds.{shownWidth}
 use Rattle.watch.proofs.parts.is_clear.Statement.{statement}
 use Rattle.watch.proofs.parts.is_clear.Tie as tie
 
-behind-requires : tie.Need-behind-requires
-behind-requires c κs = search needs
+behind-shown-requires : tie.Need-behind-shown-requires
+behind-shown-requires c κs = search needs
 
 byte-requires : tie.Need-byte-requires
 byte-requires c κs = search needs
@@ -29,14 +29,14 @@ returns : tie.Need-returns
 returns c =
     let s = c .before .before .before .before .before .before in
     let r = now (s .args .reply) in
-    rw (c .before .byte2 .ensures, c .before .before .bit3 .ensures, c .before .before .before .byte .ensures, c .byte3 .ensures, c .before .before .before .before .behind .ensures .0 ∙ past-count shownWidth r (s .args .at) (omega arith))
-    (clear-is (view (s .args .left)) r (s .args .at) (s .args .left .len) (s .pre .0 .long))
+    rw (c .before .byte2 .ensures, c .before .before .bit3 .ensures, c .before .before .before .byte .ensures, c .byte3 .ensures, c .before .before .before .before .behind-shown .ensures .0 ∙ past-count shownWidth r (s .args .at) (omega arith))
+    (clear-is (s .args .st) (view (s .args .left)) r (s .args .at) (s .args .left .len) (s .pre .0 .long))
 
 pub is-clear-spec : {M : Type 1} → statement M
 is-clear-spec =
     tie.close
     (tie.spec
-    behind-requires
+    behind-shown-requires
     byte-requires
     bit3-requires
     byte-requires-2

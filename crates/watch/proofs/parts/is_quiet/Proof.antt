@@ -9,11 +9,11 @@ use Rattle.paper.specs.Kinds.{wordWidth, shownWidth}
 use Rattle.watch.proofs.parts.is_quiet.Statement.{statement}
 use Rattle.watch.proofs.parts.is_quiet.Tie as tie
 
+behind-shown-requires : tie.Need-behind-shown-requires
+behind-shown-requires c κs = search needs
+
 behind-requires : tie.Need-behind-requires
 behind-requires c κs = search needs
-
-behind-requires-2 : tie.Need-behind-requires-2
-behind-requires-2 c κs = search needs
 
 byte-requires : tie.Need-byte-requires
 byte-requires c κs = search needs
@@ -28,16 +28,16 @@ returns : tie.Need-returns
 returns c =
     let s = c .before .before .before .before .before .before in
     let r = now (s .args .reply) in
-    let b = c .before .before .before .behind2 in
-    let t = c .before .before .before .before .behind in
-    rw (c .before .before .byte .ensures, c .before .byte2 .ensures, c .byte3 .ensures, b .ensures .0 ∙ past-count wordWidth r (t .result) (omega arith), t .ensures .0 ∙ past-count shownWidth r (s .args .at) (omega arith)) (sym (quiet-tail (s .args .at) r))
+    let b = c .before .before .before .behind in
+    let t = c .before .before .before .before .behind-shown in
+    rw (c .before .before .byte .ensures, c .before .byte2 .ensures, c .byte3 .ensures, b .ensures .0 ∙ past-count wordWidth r (t .result) (omega arith), t .ensures .0 ∙ past-count shownWidth r (s .args .at) (omega arith)) (sym (quiet-tail (s .args .st) (s .args .at) r))
 
 pub is-quiet-spec : {M : Type 1} → statement M
 is-quiet-spec =
     tie.close
     (tie.spec
+    behind-shown-requires
     behind-requires
-    behind-requires-2
     byte-requires
     byte-requires-2
     byte-requires-3

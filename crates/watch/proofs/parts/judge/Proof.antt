@@ -18,7 +18,7 @@ returns : tie.Need-returns
 returns c =
     let a = c .before .before .before .before .args in
     let n : u16 (now (a .reply)) numberPlace ≡ 0 → ⊥ = omega arith in
-    rw (read-refused (now (a .reply)) n) (judged-refused (a .b) (now (a .msg)) _ _ (c .before .before .before .before .pre))
+    rw (read-refused (a .b .reading) (now (a .reply)) n) (judged-refused (a .b) (now (a .msg)) _ _ (c .before .before .before .before .pre))
 
 u16-at-requires-2 : tie.Need-u16-at-requires-2
 u16-at-requires-2 c κs = search needs
@@ -31,7 +31,7 @@ returns-2 c =
     let a = c .before .before .before .before .before .before .before .args in
     let z : u16 (now (a .reply)) numberPlace ≡ 0 = omega arith in
     let k : kindOf (now (a .reply)) ≡ replyTo beginKind = omega arith in
-    rw (read-started (now (a .reply)) z k) (c .started .ensures)
+    rw (read-started (a .b .reading) (now (a .reply)) z k) (c .started .ensures)
 
 listed-requires : tie.Need-listed-requires
 listed-requires c κs = search needs
@@ -41,7 +41,7 @@ returns-3 c =
     let a = c .before .before .before .before .before .before .before .before .args in
     let z : u16 (now (a .reply)) numberPlace ≡ 0 = omega arith in
     let k : kindOf (now (a .reply)) ≡ replyTo listsKind = omega arith in
-    rw (read-listed (now (a .reply)) z k) (judged-listed (a .b) (now (a .msg)) _ _ _ (rw (lists-read (now (a .reply))) (c .listed .ensures)))
+    rw (read-listed (a .b .reading) (now (a .reply)) z k) (judged-listed (a .b) (now (a .msg)) _ _ _ (rw (lists-read (now (a .reply))) (c .listed .ensures)))
 
 done-requires : tie.Need-done-requires
 done-requires c κs = search needs
@@ -52,7 +52,7 @@ returns-4 c =
     let z : u16 (now (a .reply)) numberPlace ≡ 0 = omega arith in
     let k : kindOf (now (a .reply)) ≡ replyTo beginKind → ⊥ = omega arith in
     let m : kindOf (now (a .reply)) ≡ replyTo listsKind → ⊥ = omega arith in
-    rw (read-done (now (a .reply)) z k m) (c .done .ensures)
+    rw (read-done (a .b .reading) (now (a .reply)) z k m) (c .done .ensures)
 
 pub judge-spec : {M : Type 1} → statement M
 judge-spec =

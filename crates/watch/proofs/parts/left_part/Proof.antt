@@ -20,7 +20,7 @@ is-clear-requires c κs = search needs
 returns : tie.Need-returns
 returns c =
     let a = c .before .before .before .args in
-    sym (left-19 (view (a .l)) (now (a .reply)) (a .n) (sym (c .before .is-clear .ensures) ∙ flip _ (c .if1 .taken)))
+    sym (left-19 (a .st) (view (a .l)) (now (a .reply)) (a .n) (sym (c .before .is-clear .ensures) ∙ flip _ (c .if1 .taken)))
 
 names-known-requires : tie.Need-names-known-requires
 names-known-requires c κs = search needs
@@ -28,12 +28,12 @@ names-known-requires c κs = search needs
 returns-2 : tie.Need-returns-2
 returns-2 c =
     let a = c .before .before .before .before .before .args in
-    sym (left-0 (view (a .l)) (now (a .reply)) (a .n) (sym (c .before .before .before .is-clear .ensures) ∙ flop _ (c .before .before .if1 .left)) (sym (c .before .names-known .ensures) ∙ c .if2 .taken))
+    sym (left-0 (a .st) (view (a .l)) (now (a .reply)) (a .n) (sym (c .before .before .before .is-clear .ensures) ∙ flop _ (c .before .before .if1 .left)) (sym (c .before .names-known .ensures) ∙ c .if2 .taken))
 
 returns-3 : tie.Need-returns-3
 returns-3 c =
     let a = c .before .before .before .before .before .args in
-    sym (left-12 (view (a .l)) (now (a .reply)) (a .n) (sym (c .before .before .before .is-clear .ensures) ∙ flop _ (c .before .before .if1 .left)) (sym (c .before .names-known .ensures) ∙ c .if2 .left))
+    sym (left-12 (a .st) (view (a .l)) (now (a .reply)) (a .n) (sym (c .before .before .before .is-clear .ensures) ∙ flop _ (c .before .before .if1 .left)) (sym (c .before .names-known .ensures) ∙ c .if2 .left))
 
 pub left-part-spec : {M : Type 1} → statement M
 left-part-spec =

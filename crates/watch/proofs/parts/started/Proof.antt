@@ -13,7 +13,7 @@ is-idle-requires : tie.Need-is-idle-requires
 is-idle-requires c κs = search needs
 
 returns : tie.Need-returns
-returns c = let a = c .before .before .before .before .before .args in begins-3 (a .b) (now (a .msg)) (now (a .reply)) (sym (c .before .is-idle .ensures) ∙ flip _ (c .if1 .taken))
+returns c = let a = c .before .before .before .before .before .before .args in begins-3 (a .b) (now (a .msg)) (now (a .reply)) (sym (c .before .is-idle .ensures) ∙ flip _ (c .if1 .taken))
 
 line-begun-requires : tie.Need-line-begun-requires
 line-begun-requires c κs = search needs
@@ -23,7 +23,7 @@ cast-if2 c = search needs
 
 returns-2 : tie.Need-returns-2
 returns-2 c =
-    let a = c .before .before .before .before .before .before .before .before .before .before .args in
+    let a = c .before .before .before .before .before .before .before .before .before .before .before .args in
     let e = c .before .before .before .before .line-begun .result in
     let n : e .serial .0 ≡ a .b .begun → ⊥ = omega (arith, c .if2 .taken) in
     begins-4 (a .b) (now (a .msg)) (now (a .reply)) (sym (c .before .before .before .before .before .before .is-idle .ensures) ∙ flop _ (c .before .before .before .before .before .if1 .left)) e (c .before .before .before .before .line-begun .ensures) n
@@ -33,7 +33,7 @@ has-any-requires c κs = search needs
 
 returns-3 : tie.Need-returns-3
 returns-3 c =
-    let a = c .before .before .before .before .before .before .before .before .before .before .before .before .before .args in
+    let a = c .before .before .before .before .before .before .before .before .before .before .before .before .before .before .args in
     let e = c .before .before .before .before .before .before .before .line-begun .result in
     let s : e .serial .0 ≡ a .b .begun = omega (arith, c .before .before .before .if2 .left) in
     begins-5 (a .b) (now (a .msg)) (now (a .reply)) (sym (c .before .before .before .before .before .before .before .before .before .is-idle .ensures) ∙ flop _ (c .before .before .before .before .before .before .before .before .if1 .left)) e (c .before .before .before .before .before .before .before .line-begun .ensures) s (sym (c .before .has-any .ensures) ∙ c .if3 .taken)
@@ -52,7 +52,7 @@ tail-requires c κs = search needs
 
 returns-4 : tie.Need-returns-4
 returns-4 c =
-    let a = c .before .before .before .before .before .before .before .before .before .before .before .before .before .before .before .before .before .args in
+    let a = c .before .before .before .before .before .before .before .before .before .before .before .before .before .before .before .before .before .before .args in
     let e = c .before .before .before .before .before .before .before .before .before .before .before .line-begun .result in
     let s : e .serial .0 ≡ a .b .begun = omega (arith, c .before .before .before .before .before .before .before .if2 .left) in
     let z : c .before .before .tail .result .part ≡ 0 → ⊥ = omega (arith, c .if4 .taken) in
@@ -66,22 +66,22 @@ left-part-requires c κs =
 
 returns-5 : tie.Need-returns-5
 returns-5 c =
-    let a = c .before .before .before .before .before .before .before .before .before .before .before .before .before .before .before .before .before .before .before .before .args in
+    let a = c .before .before .before .before .before .before .before .before .before .before .before .before .before .before .before .before .before .before .before .before .before .args in
     let e = c .before .before .before .before .before .before .before .before .before .before .before .before .before .before .line-begun .result in
     let s : e .serial .0 ≡ a .b .begun = omega (arith, c .before .before .before .before .before .before .before .before .before .before .if2 .left) in
     let z : c .before .before .before .before .before .tail .result .part ≡ 0 = omega (arith, c .before .before .before .if4 .left) in
     begins-left (a .b) (now (a .msg)) (now (a .reply)) (sym (c .before .before .before .before .before .before .before .before .before .before .before .before .before .before .before .before .is-idle .ensures) ∙ flop _ (c .before .before .before .before .before .before .before .before .before .before .before .before .before .before .before .if1 .left)) e (c .before .before .before .before .before .before .before .before .before .before .before .before .before .before .line-begun .ensures) s (sym (c .before .before .before .before .before .before .before .before .has-any .ensures) ∙ c .before .before .before .before .before .before .before .if3 .left) (c .before .before .before .before .before .before .members .result) (c .before .before .before .before .before .before .members .ensures .0) (c .before .before .before .before .before .tail .result) (c .before .before .before .before .before .tail .ensures) z (c .before .left-part .result) (c .before .left-part .ensures) (let k : c .before .left-part .result ≡ 0 → ⊥ = omega (arith, c .if5 .taken) in k)
 
-add-t17 : tie.Need-add-t17
-add-t17 c = search needs
+add-t18 : tie.Need-add-t18
+add-t18 c = search needs
 
 returns-6 : tie.Need-returns-6
 returns-6 c =
-    let a = c .before .before .before .before .before .before .before .before .before .before .before .before .before .before .before .before .before .before .before .before .before .before .args in
+    let a = c .before .before .before .before .before .before .before .before .before .before .before .before .before .before .before .before .before .before .before .before .before .before .before .args in
     let e = c .before .before .before .before .before .before .before .before .before .before .before .before .before .before .before .before .line-begun .result in
     let s : e .serial .0 ≡ a .b .begun = omega (arith, c .before .before .before .before .before .before .before .before .before .before .before .before .if2 .left) in
     let z : c .before .before .before .before .before .before .before .tail .result .part ≡ 0 = omega (arith, c .before .before .before .before .before .if4 .left) in
-    begins-0 (a .b) (now (a .msg)) (now (a .reply)) (sym (c .before .before .before .before .before .before .before .before .before .before .before .before .before .before .before .before .before .before .is-idle .ensures) ∙ flop _ (c .before .before .before .before .before .before .before .before .before .before .before .before .before .before .before .before .before .if1 .left)) e (c .before .before .before .before .before .before .before .before .before .before .before .before .before .before .before .before .line-begun .ensures) s (sym (c .before .before .before .before .before .before .before .before .before .before .has-any .ensures) ∙ c .before .before .before .before .before .before .before .before .before .if3 .left) (c .before .before .before .before .before .before .before .before .members .result) (c .before .before .before .before .before .before .before .before .members .ensures .0) (c .before .before .before .before .before .before .before .tail .result) (c .before .before .before .before .before .before .before .tail .ensures) z (c .before .before .before .before .before .before .before .before .before .before .before .before .before .before .before .before .before .before .before .before .before .before .pre) (let k : c .before .before .before .left-part .result ≡ 0 = omega (arith, c .before .before .if5 .left) in sym (c .before .before .before .left-part .ensures) ∙ k)
+    begins-0 (a .b) (now (a .msg)) (now (a .reply)) (sym (c .before .before .before .before .before .before .before .before .before .before .before .before .before .before .before .before .before .before .is-idle .ensures) ∙ flop _ (c .before .before .before .before .before .before .before .before .before .before .before .before .before .before .before .before .before .if1 .left)) e (c .before .before .before .before .before .before .before .before .before .before .before .before .before .before .before .before .line-begun .ensures) s (sym (c .before .before .before .before .before .before .before .before .before .before .has-any .ensures) ∙ c .before .before .before .before .before .before .before .before .before .if3 .left) (c .before .before .before .before .before .before .before .before .members .result) (c .before .before .before .before .before .before .before .before .members .ensures .0) (c .before .before .before .before .before .before .before .tail .result) (c .before .before .before .before .before .before .before .tail .ensures) z (c .before .before .before .before .before .before .before .before .before .before .before .before .before .before .before .before .before .before .before .before .before .before .before .pre) (let k : c .before .before .before .left-part .result ≡ 0 = omega (arith, c .before .before .if5 .left) in sym (c .before .before .before .left-part .ensures) ∙ k)
 
 pub started-spec : {M : Type 1} → statement M
 started-spec =
@@ -101,5 +101,5 @@ started-spec =
     returns-4
     left-part-requires
     returns-5
-    add-t17
+    add-t18
     returns-6)

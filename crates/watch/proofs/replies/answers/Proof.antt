@@ -23,7 +23,7 @@ returns c =
     let s = c .before .before .before .before .before .before in
     let a = now (s .args .reply) in
     let n : u16 a numberPlace ≡ 0 → ⊥ = omega arith in
-    c .refusal-answers .ensures ∙ sym (heard-refused (now (s .args .msg)) a n)
+    λ st. c .refusal-answers .ensures ∙ sym (heard-refused st (now (s .args .msg)) a n)
 
 kind-answered-requires : tie.Need-kind-answered-requires
 kind-answered-requires c κs = search needs
@@ -33,7 +33,7 @@ returns-2 c =
     let s = c .before .before .before .before .before .before in
     let a = now (s .args .reply) in
     let z : u16 a numberPlace ≡ 0 = omega arith in
-    rw (c .kind-answered .ensures, c .before .before .before .u16-at .ensures) (sym (heard-else (now (s .args .msg)) a z))
+    λ st. rw (c .kind-answered .ensures, c .before .before .before .u16-at .ensures) (sym (heard-else st (now (s .args .msg)) a z))
 
 pub answers-spec : {M : Type 1} → statement M
 answers-spec =

@@ -24,7 +24,7 @@ returns c =
     let x : s .args .t .handed ≤ most = search needs in
     let y : s .args .t .thrown ≤ most = search needs in
     let z : s .args .t .lists ≤ most = search needs in
-    tally-refused (s .args .t) a n x y z
+    tally-refused (s .args .st) (s .args .t) a n x y z
 
 u16-at-requires-2 : tie.Need-u16-at-requires-2
 u16-at-requires-2 c κs = search needs
@@ -40,13 +40,13 @@ returns-2 c =
     let k : kindOf a ≡ replyTo listsKind = omega arith in
     let x : s .args .t .handed ≤ most = search needs in
     let y : s .args .t .thrown ≤ most = search needs in
-    rw (c .plus .ensures) (tally-listed (s .args .t) a w k x y)
+    rw (c .plus .ensures) (tally-listed (s .args .st) (s .args .t) a w k x y)
 
 tail-place-requires : tie.Need-tail-place-requires
 tail-place-requires c κs = search needs
 
-behind-requires : tie.Need-behind-requires
-behind-requires c κs = search needs
+behind-shown-requires : tie.Need-behind-shown-requires
+behind-shown-requires c κs = search needs
 
 byte-requires : tie.Need-byte-requires
 byte-requires c κs = search needs
@@ -74,7 +74,7 @@ returns-3 c =
     let k : kindOf a ≡ replyTo listsKind → ⊥ = omega (arith, c .before .before .before .before .before .before .if2 .left, c .before .before .before .before .before .before .before .u16-at2 .ensures) in
     let z : s .args .t .lists ≤ most = search (needs, s .good) in
     let p = c .before .before .before .before .before .tail-place in
-    rw (c .before .before .plus2 .ensures, c .plus3 .ensures, c .before .before .before .byte .ensures, c .before .byte2 .ensures, c .before .before .before .before .behind .ensures .0 ∙ past-count shownWidth a (p .result) (omega (arith, p .ensures .1)), p .ensures .0) (tally-tail (s .args .t) a w k z)
+    rw (c .before .before .plus2 .ensures, c .plus3 .ensures, c .before .before .before .byte .ensures, c .before .byte2 .ensures, c .before .before .before .before .behind-shown .ensures .0 ∙ past-count shownWidth a (p .result) (omega (arith, p .ensures .1)), p .ensures .0) (tally-tail (s .args .st) (s .args .t) a w k z)
 
 pub tally-of-spec : {M : Type 1} → statement M
 tally-of-spec =
@@ -86,7 +86,7 @@ tally-of-spec =
     plus-requires
     returns-2
     tail-place-requires
-    behind-requires
+    behind-shown-requires
     byte-requires
     cast-plus
     plus-requires-2
