@@ -14,3 +14,11 @@ emulator=$toolchain/bin/qemu-x86_64
 start() {
   exec ${emulator:+"$emulator"} "$loader" --library-path "$toolchain/lib" "$@"
 }
+
+# start_by SCRIPT NAME PROGRAM [ARGUMENTS]: the same, started by a script in python that gets NAME and then the command
+start_by() {
+  script=$1
+  name=$2
+  shift 2
+  exec python3 -IS "$script" "$name" ${emulator:+"$emulator"} "$loader" --library-path "$toolchain/lib" "$@"
+}

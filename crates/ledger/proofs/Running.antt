@@ -13,10 +13,10 @@ use Rattle.paper.specs.Step.{replies}
 use Rattle.paper.specs.Watch.{watched}
 use Rattle.paper.proofs.Bools.{not-both}
 use Rattle.format.specs.Cut.{joined, cut}
+use Rattle.stream.specs.declared.files.Feed.{Feed}
 use Rattle.stream.specs.Turns.{through}
 use Rattle.stream.proofs.Running.{Reached, by-turns}
 use Rattle.watch.specs.Pairs.{tallyAll}
-use Rattle.ledger.specs.declared.Feed.{Feed}
 use Rattle.ledger.specs.Verdict.{judged}
 use Rattle.ledger.specs.Turns.{Judging, Settled, Stand, recordsIn, repliesIn, Starts, Turning, Judges}
 use Rattle.ledger.proofs.Files.{KeptFiles, kept-files, session-files}

@@ -5,8 +5,8 @@ use mathlib.Core.List.{List, [], _++_, append-assoc}
 use mathlib.Core.Bool.{true, false, _&&_, _||_}
 use native.Mathlib.Omega.{arith}
 use lib.Dec.{ltb, eqb}
-use lib.ListN.{length, take, drop, length-append, length-drop}
-use lib.Seq.{take-all, take-append-add, length-take-le, length-paste}
+use lib.ListN.{length, take, drop, length-append}
+use lib.Seq.{take-all, take-append-add, length-take-le}
 use borrow.Author.Tests.{eqb-true, eqb-false, lt-ltb, le-ltb}
 use Rattle.paper.specs.Reading.{opening, furtherAll}
 use Rattle.paper.specs.Ledger.{blank}
@@ -17,8 +17,11 @@ use Rattle.paper.proofs.Again.{further-append}
 use Rattle.format.specs.Cut.{sizeOf, joined, isWhole, cut, restOf}
 use Rattle.format.proofs.Fitting.{within}
 use Rattle.format.proofs.Cutting.{joined-on, all-append, none-whole, some-cut, front-whole}
+use Rattle.stream.specs.declared.files.Feed.{Feed}
 use Rattle.stream.specs.Turns.{shifted}
-use Rattle.stream.proofs.Keeping.{shifted-within, taken-off, none-brought}
+use Rattle.stream.specs.Files.{brought, lessened}
+use Rattle.stream.proofs.Keeping.{taken-off}
+use Rattle.stream.proofs.Sides.{onward-less, unread-less}
 use Rattle.watch.specs.declared.exchanges.Paired.{Paired}
 use Rattle.watch.specs.Book.{bookIn, HoldsBook, noTally, most}
 use Rattle.watch.specs.Pairs.{tallyAll, Watches, WatchesAll}
@@ -26,10 +29,9 @@ use Rattle.watch.proofs.Far.{length-none}
 use Rattle.watch.proofs.ExchangeLaws.{watched-even, tally-append}
 use Rattle.watch.proofs.Determined.{also}
 use Rattle.watch.proofs.Blocks.{next-block, next-place, next-book}
-use Rattle.ledger.specs.declared.Feed.{Feed}
 use Rattle.ledger.specs.declared.State.{State}
 use Rattle.ledger.specs.Verdict.{judged}
-use Rattle.ledger.specs.Turns.{brought, lessened, Judging, Says, Onward, Unread, exchangeWaits, Turned}
+use Rattle.ledger.specs.Turns.{Judging, Says, exchangeWaits, Turned}
 use Rattle.ledger.proofs.Verdicts.{broken-stands, judged-front}
 
 not-both-whole : (n m : ℕ) → (eqb n 0 || eqb m 0) ≡ true → (ltb 0 n && ltb 0 m) ≡ false
@@ -43,14 +45,6 @@ cut-front : {all after : List ℕ} (f : Feed) (n : ℕ) (before : List ℕ) (rs 
     → after ≡ shifted before n (f .held) → all ≡ joined rs ++ take (f .held) before → all ++ brought f (lessened f n) after ≡ joined (rs ++ qs) ++ take (f .held - n) after
 cut-front {after = after} f n before rs qs h k c e a =
     joined-on rs qs (take (f .held) before) (brought f (lessened f n) after) (take (f .held - n) after) a (taken-off (joined qs) (f .held) before h k c e)
-
-onward-less : (f : Feed) (n : ℕ) (before after : List ℕ) → f .held ≤ length before → n ≤ f .held → after ≡ shifted before n (f .held) → Onward f (lessened f n) after
-onward-less f n before after h k e =
-    let m : length after ≡ length before = ap length (e ∙ shifted-within before n (f .held) h) ∙ length-paste before 0 (drop n before) (f .held - n) (omega arith) (simp length-drop (omega arith)) in
-    record { fd = refl; within = omega arith; ended = λ _. none-brought (f .held) (f .held - n) after (omega arith) }
-
-unread-less : (f : Feed) (n : ℕ) (after : List ℕ) → Unread f (lessened f n) after
-unread-less f n after = record { none = none-brought (f .held) (f .held - n) after (omega arith); ended = refl; failed = refl }
 
 module _ {p : Paired} (s : State) (records replies : List ℕ) (h : s .records .held ≤ length records) (k : s .replies .held ≤ length replies)
     (g : WatchesAll (s .book) (take (s .records .held) records) (take (s .replies .held) replies) p) where

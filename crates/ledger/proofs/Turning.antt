@@ -7,47 +7,23 @@ use native.Mathlib.Omega.{arith}
 use lib.Dec.{ltb}
 use lib.ListN.{length, take}
 use lib.Seq.{length-take-le}
-use borrow.Author.Tests.{eqb-true, lt-ltb, le-ltb, ltb-true, ltb-false}
+use borrow.Author.Tests.{lt-ltb, le-ltb, ltb-true, ltb-false}
 use Rattle.paper.specs.Words.{first}
 use Rattle.paper.specs.Reading.{opening}
 use Rattle.paper.specs.Ledger.{blank}
 use Rattle.paper.proofs.Bools.{not-both}
 use Rattle.format.specs.Cut.{Parts, sizeOf, joined, parts, cut, restOf}
 use Rattle.format.proofs.Cutting.{parts-none, cut-some}
-use Rattle.stream.proofs.Keeping.{none-brought, read-so-far, still-same}
+use Rattle.stream.specs.declared.files.Feed.{Feed}
+use Rattle.stream.specs.Files.{Fed}
+use Rattle.stream.proofs.Keeping.{still-same}
+use Rattle.stream.proofs.Sides.{Side, side-fed, side-same}
 use Rattle.watch.proofs.ExchangeLaws.{watched-even}
-use Rattle.ledger.specs.declared.Feed.{Feed}
 use Rattle.ledger.specs.declared.State.{State}
 use Rattle.ledger.specs.Moves.{moveOf}
 use Rattle.ledger.specs.Verdict.{lastPart, judged}
-use Rattle.ledger.specs.Turns.{Fed, brought, stateOf, wants, Went, Judging, Says, Onward, Keeps, exchangeWaits, Turned}
+use Rattle.ledger.specs.Turns.{stateOf, wants, Went, Judging, Says, Keeps, exchangeWaits, Turned}
 use Rattle.ledger.proofs.Verdicts.{rest-decides, judged-front}
-
--- ---- one file
-
--- a file in a turn: it goes on, and what is read stands behind what waits
-record Side (f : Feed) (before : List ℕ) (r : Feed) (after : List ℕ) : Type 0 where
-  onward : Onward f r after
-  waits : (all front : List ℕ) → all ≡ front ++ take (f .held) before → all ++ brought f r after ≡ front ++ take (r .held) after
-
-side-fed : {f r : Feed} {before after : List ℕ} → f .held ≤ length before → Fed f before r after → Side f before r after
-side-fed {f} {r} {before} {after} h g =
-    record {
-      onward =
-          record {
-            fd = g .fd;
-            within = g .read .within h;
-            ended = λ e. let k = eqb-true (r .held) (f .held) (sym (g .ended) ∙ e) in none-brought (f .held) (r .held) after (omega arith);
-          };
-      waits = λ all front. read-so-far front (f .held) (r .held) before after (g .read .grows) (g .read .kept);
-    }
-
-side-same : (f : Feed) (l : List ℕ) → f .held ≤ length l → Side f l f l
-side-same f l h =
-    record {
-      onward = record { fd = refl; within = h; ended = λ e. none-brought (f .held) (f .held) l (omega arith) };
-      waits = λ all front e. still-same (f .held) (f .held) l (omega arith) ∙ e;
-    }
 
 -- ---- what waits in a file, with whatever stands behind it
 

@@ -1,45 +1,26 @@
 -- What a turn of the program says of all that was read of the two files.
-use Prim.Native.Nat.{ℕ, _-_, _≤_, min}
+use Prim.Native.Nat.{ℕ, min}
 use mathlib.Core.Path.{_≡_}
 use mathlib.Core.List.{List, [], _++_}
 use mathlib.Core.Bool.{Bool, true, false, not, _&&_}
-use lib.ListN.{length, take}
-use lib.Dec.{ltb, eqb}
-use lib.IntN.{ℤ, pos, negsuc}
+use lib.ListN.{take}
+use lib.Dec.{ltb}
+use lib.IntN.{ℤ}
 use Rattle.paper.specs.Words.{allB}
 use Rattle.paper.specs.Reading.{opening, furtherAll}
 use Rattle.paper.specs.Ledger.{blank}
 use Rattle.paper.specs.Watch.{watched}
 use Rattle.format.specs.Cut.{sizeOf, joined, isWhole}
-use Rattle.stream.specs.Turns as Reading
+use Rattle.stream.specs.declared.files.Feed.{Feed}
+use Rattle.stream.specs.Files.{Fed, brought, Onward, Unread, unread}
 use Rattle.stream.specs.Turns.{Ran, through}
 use Rattle.watch.specs.Book.{HoldsBook, noTally, most}
 use Rattle.watch.specs.Pairs.{tallyAll}
-use Rattle.ledger.specs.declared.Feed.{Feed}
 use Rattle.ledger.specs.declared.State.{State}
 use Rattle.ledger.specs.declared.Move.{Move}
 use Rattle.ledger.specs.declared.Move.the-variants.{Records, Replies, Stop}
 use Rattle.ledger.specs.Moves.{moveOf}
 use Rattle.ledger.specs.Verdict.{Answer, judged}
-
--- a file that is open has a descriptor, which is no negative number; of the others one is answered, -1
-abbrev pub Opened : ℤ → Type 0
-Opened (pos k) = Unit {0}
-Opened (negsuc k) = k ≡ 0
-
--- One read of a file, which has ended where nothing was read
-pub record Fed (f : Feed) (before : List ℕ) (r : Feed) (after : List ℕ) : Type 0 where
-  pub fd : r .fd ≡ f .fd
-  pub ended : r .ended ≡ eqb (r .held) (f .held)
-  pub read : Reading.Fed (f .held) before (record { held = r .held; failed = r .failed }) after
-
--- what was read
-abbrev pub brought : Feed → Feed → List ℕ → List ℕ
-brought f r after = Reading.brought (f .held) (r .held) after
-
--- the bytes behind the first n wait
-abbrev pub lessened : Feed → ℕ → Feed
-lessened f n = record { fd = f .fd; held = f .held - n; ended = f .ended; failed = f .failed }
 
 -- the same book and number
 abbrev pub stateOf : State → Feed → Feed → ℕ → Bool → State
@@ -83,12 +64,6 @@ pub record Says (s : State) (x : Answer) : Type 0 where
 abbrev pub Settled : State → List ℕ → List ℕ → Type 0
 Settled s R A = (more others : List ℕ) → (s .records .ended ≡ true → more ≡ []) → (s .replies .ended ≡ true → others ≡ []) → Says s (judged (R ++ more) (A ++ others))
 
--- One file in a turn: it is still that file, what waits lies within its buffer, and where it has ended nothing was read
-pub record Onward (f r : Feed) (after : List ℕ) : Type 0 where
-  pub fd : r .fd ≡ f .fd
-  pub within : r .held ≤ length after
-  pub ended : r .ended ≡ true → brought f r after ≡ []
-
 -- One turn, whatever was read before it: the run goes on and what the turn brought is judged so far, or it ends with the answer, if both files could be read
 pub record Keeps (s : State) (records replies : List ℕ) (r : State) (records′ replies′ : List ℕ) : Type 0 where
   pub records-on : Onward (s .records) (r .records) records′
@@ -101,12 +76,6 @@ pub record Keeps (s : State) (records replies : List ℕ) (r : State) (records�
 -- a whole record and a whole reply wait
 abbrev pub exchangeWaits : State → List ℕ → List ℕ → Bool
 exchangeWaits s records replies = ltb 0 (sizeOf (take (s .records .held) records)) && ltb 0 (sizeOf (take (s .replies .held) replies))
-
--- nothing is read of a file, so it neither ends nor fails
-pub record Unread (f r : Feed) (after : List ℕ) : Type 0 where
-  pub none : brought f r after ≡ []
-  pub ended : r .ended ≡ f .ended
-  pub failed : r .failed ≡ f .failed
 
 pub record Turned (s : State) (records replies : List ℕ) (r : State) (records′ replies′ : List ℕ) : Type 0 where
   pub keeps : Keeps s records replies r records′ replies′
@@ -130,10 +99,6 @@ recordsIn b s = brought (b .state .records) (s .state .records) (s .records)
 
 abbrev pub repliesIn : Stand → Stand → List ℕ
 repliesIn b s = brought (b .state .replies) (s .state .replies) (s .replies)
-
--- a file of which nothing was read yet
-abbrev pub unread : ℤ → Feed
-unread fd = record { fd = fd; held = 0; ended = false; failed = false }
 
 -- a run starts with a new book and the two files
 pub record Starts (records-fd replies-fd : ℤ) (s : Stand) : Type 0 where

@@ -3,24 +3,16 @@
 // memory, and says `kept` or the first reply that breaks a part.
 mod text;
 
+use stream::files::Feed;
 use watch::Book;
 ghost use mathlib.Core.Path.{_≡_};
 ghost use Prim.Native.Nat.{_≤_};
 ghost use lib.ListN.{length};
 ghost use Rattle.ledger.specs.Moves.{moveOf};
-ghost use Rattle.ledger.specs.Turns.{Opened, Fed, lessened, stateOf, wants, Went, Turned, standing, Judges};
+ghost use Rattle.ledger.specs.Turns.{stateOf, wants, Went, Turned, standing, Judges};
 
 // A record or a reply has at most 65,539 bytes, so there is always room to read on behind one that is not whole yet.
 const INPUT: usize = 131072;
-
-// One of the two files: how many of its bytes wait at the start of its buffer, and whether it has ended or could not be
-// read.
-struct Feed {
-    fd: i32,
-    held: usize,
-    ended: bool,
-    failed: bool,
-}
 
 // The book, how many exchanges broke nothing, the two files, the part that the next exchange breaks, and whether the
 // run goes on.
@@ -61,36 +53,6 @@ fn next_move(said: bool, all_said: bool, answered: bool, all_answered: bool, res
     if said { Move::Stop(17) } else { Move::Stop(0) }
 }
 
-// One read behind the bytes that wait. None is read at the end of the file, or where it can't be read; a buffer that is
-// full, as none is behind a record that is not whole, counts as a file that can't be read, so that no verdict rests on
-// it.
-fn read_on(f: Feed, bytes: &mut [u8]) -> Feed
-    ensures { λ r. ⌜ Fed f (now (bytes .entry)) r (now (bytes .exit)) ⌝ }
-{
-    let held = f.held;
-    let r = stream::read_on(f.fd, held, bytes);
-    let now = r.held;
-    Feed {
-        fd: f.fd,
-        held: now,
-        ended: now == held,
-        failed: r.failed,
-    }
-}
-
-// The bytes behind the first n wait now.
-fn without(f: Feed, n: usize) -> Feed
-    requires { ⌜ n ≤ f .held ⌝ }
-    ensures { λ r. ⌜ r ≡ lessened f n ⌝ }
-{
-    Feed {
-        fd: f.fd,
-        held: f.held - n,
-        ended: f.ended,
-        failed: f.failed,
-    }
-}
-
 // The same book and number, with these files and this part.
 fn fed(s: State, records: Feed, replies: Feed, part: u8, more: bool) -> State
     ensures { λ r. ⌜ r ≡ stateOf s records replies part more ⌝ }
@@ -115,11 +77,11 @@ fn go_on(s: State, m: Move, records: &mut [u8], replies: &mut [u8]) -> State
     let b = s.replies;
     match m {
         Move::Records => {
-            let f = read_on(a, records);
+            let f = stream::files::read_on(a, records);
             fed(s, f, b, 0, !f.failed)
         }
         Move::Replies => {
-            let f = read_on(b, replies);
+            let f = stream::files::read_on(b, replies);
             fed(s, a, f, 0, !f.failed)
         }
         Move::Stop(part) => fed(s, a, b, part, false),
@@ -162,8 +124,8 @@ fn turn(s: State, records: &mut [u8], replies: &mut [u8]) -> State
     stream::shift(records, taken, n);
     stream::shift(replies, answered, k);
     let book = p.book;
-    let x = without(a, taken);
-    let y = without(b, answered);
+    let x = stream::files::without(a, taken);
+    let y = stream::files::without(b, answered);
     State {
         book,
         number: watch::plus(s.number, p.pairs),
@@ -207,32 +169,14 @@ fn run(records_fd: i32, replies_fd: i32, records: &mut [u8], replies: &mut [u8])
     s
 }
 
-// Opens the file that an argument names: a descriptor, or -1 where it can't, and then it says so.
-fn open(i: usize) -> i32
-    ensures { λ r. ⌜ Opened r ⌝ }
-{
-    let mut path = io::buffer();
-    let n = os::arg(i, &mut path);
-    if os::errno() != 0 {
-        os::fail(b"ledger: the file's name");
-        return -1;
-    }
-    let fd = os::open_read(&path[..n]);
-    if fd < 0 {
-        os::fail(&path[..n]);
-        return -1;
-    }
-    fd
-}
-
 // Both buffers are here, of one size for any length of the files.
 fn main() {
     if os::arg_count() != 3 {
         io::write_all(2, b"usage: ledger RECORDS REPLIES\n");
         return;
     }
-    let a = open(1);
-    let b = open(2);
+    let a = stream::files::open(1, b"ledger");
+    let b = stream::files::open(2, b"ledger");
     if (a < 0) | (b < 0) {
         return;
     }

@@ -19,7 +19,7 @@ use Rattle.paper.proofs.Sound.{good-step}
 use Rattle.paper.proofs.Refusals.{reply-fits-after}
 use Rattle.paper.proofs.LedgerTold.{sound-after, sound-fresh}
 use Rattle.paper.proofs.Unbroken.{knows}
-use Rattle.show.specs.Text.{ascii, decimal}
+use Rattle.stream.specs.Text.{ascii, decimal}
 use Rattle.show.specs.Lines.{replyText, saidText, lineOf}
 
 pub line-of : (st : Reading) (number : ℕ) (x : Reply) → Fit x → Known x → length (bytesOf x) ≤ 512 → lineOf st number (bytesOf x) ≡ decimal number ++ ascii " " ++ replyText (u8 (bytesOf x) 10) x ++ ascii "\n"

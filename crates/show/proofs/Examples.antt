@@ -6,7 +6,8 @@ use Rattle.paper.specs.Numbers.{bit}
 use Rattle.paper.specs.Reading.{opening}
 use Rattle.paper.specs.Ledger.{readWords, readShown, readReleased, readTail, readSets, readBegun, readReply}
 use Rattle.paper.specs.WholeReply.{replyEnd, wholeReply}
-use Rattle.show.specs.Text.{ascii, digits, decimal, integer, serialText}
+use Rattle.stream.specs.Text.{ascii, digits, decimal, integer}
+use Rattle.show.specs.Text.{serialText}
 use Rattle.show.specs.Lists.{named, shownText, tailText, shortText, longText}
 use Rattle.show.specs.Lines.{kindWord, refusalWord, flagsText, refusedText, doneText, toldText, listedText, replyText, damagedText, saidText, lineOf, restOf}
 

@@ -15,7 +15,7 @@ use Rattle.paper.specs.Words.{flat}
 use Rattle.paper.specs.Numbers.{u8, u16, u32, aSerial, aSurface, serialNos, surfaceNos}
 use Rattle.paper.specs.Kinds.{shownWidth}
 use Rattle.paper.specs.Ledger.{readWords, readSerials, readShown, readReleased, readTail}
-use Rattle.show.specs.Text.{ascii, decimal}
+use Rattle.stream.specs.Text.{ascii, decimal}
 use Rattle.show.specs.Lists.{behindComma, named, shownText, shownAt, tailText}
 
 pub u8-drop : (n : ℕ) (l : List ℕ) (i k : ℕ) → n + i ≡ k → u8 (drop n l) i ≡ u8 l k

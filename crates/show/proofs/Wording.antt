@@ -16,7 +16,8 @@ use Rattle.paper.specs.Records.{kindOf}
 use Rattle.paper.specs.declared.Reading.{Reading}
 use Rattle.paper.specs.Ledger.{readWords, readSerials, readTail, readSets, readBegun, readReply, setWords}
 use Rattle.paper.specs.WholeReply.{membersOf, wholeReply}
-use Rattle.show.specs.Text.{ascii, decimal, integer, serialText}
+use Rattle.stream.specs.Text.{ascii, decimal, integer}
+use Rattle.show.specs.Text.{serialText}
 use Rattle.show.specs.Lists.{named, shortText, longText}
 use Rattle.show.specs.Lines.{kindWord, refusalWord, flagsText, refusedText, doneText, toldText, listedText, replyText, begunAt, damagedText, saidText}
 use Rattle.show.proofs.Places.{u8-drop, u32-drop, serials-at}

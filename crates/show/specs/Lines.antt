@@ -13,7 +13,8 @@ use Rattle.paper.specs.Output.{Tail}
 use Rattle.paper.specs.Replies.{Begun, Reply}
 use Rattle.paper.specs.Ledger.{readReply, readBegun, readTail, setWords}
 use Rattle.paper.specs.WholeReply.{wholeReply}
-use Rattle.show.specs.Text.{ascii, decimal, integer, serialText}
+use Rattle.stream.specs.Text.{ascii, decimal, integer}
+use Rattle.show.specs.Text.{serialText}
 use Rattle.show.specs.Lists.{named, tailText, setsText}
 
 -- the record kinds, by number; a question mark for any other, as the reply to a 13 has

@@ -8,7 +8,8 @@ use Rattle.paper.specs.Numbers.{u32, i32, aSerial, aSurface, serialNos, surface
 use Rattle.paper.specs.Kinds.{wordWidth}
 use Rattle.paper.specs.Sets.{Sets}
 use Rattle.paper.specs.Output.{Tail}
-use Rattle.show.specs.Text.{ascii, decimal, integer, serialText}
+use Rattle.stream.specs.Text.{ascii, decimal, integer}
+use Rattle.show.specs.Text.{serialText}
 
 -- one more of a list
 abbrev pub behindComma : {A : Type 0} → (A → List ℕ) → A → List ℕ

@@ -1,16 +1,29 @@
 // Lists of a reply, written into a lent buffer: the sets of a begin, reference lists, and the parts of a tail.
-use crate::text;
 use format::behind_shown;
 use format::kinds;
 use format::shown_width;
 use paper::Reading;
+use store::Store;
+use stream::text;
 ghost use Prim.Native.Nat.{_+_, _*_, _≤_, _<_};
 ghost use lib.ListN.{length, drop};
 ghost use Rattle.paper.specs.Words.{flat};
 ghost use Rattle.paper.specs.Numbers.{u32};
 ghost use Rattle.paper.specs.Ledger.{readWords, readShown, readTail};
-ghost use Rattle.show.specs.Text.{ascii, spelled, Wrote};
+ghost use Rattle.stream.specs.Text.{ascii, Wrote};
+ghost use Rattle.show.specs.Text.{spelled};
 ghost use Rattle.show.specs.Lists.{behindComma, named, shownText, shownAt, tailText};
+
+// A u32 of a list. Where it is a serial that may be missing, "4,294,967,295 stands for a missing picture".
+fn put_item(d: &mut [u8], at: usize, x: u32, may_miss: bool) -> usize
+    requires { ⌜ at + 10 ≤ length (now d) ⌝ }
+    ensures { λ r. ⌜ Wrote (now (d .entry)) at (spelled «may_miss» x) 10 r (now (d .exit)) ⌝ }
+{
+    if may_miss & (x == Store::MISSING) {
+        return text::put(d, at, b"missing");
+    }
+    text::put_u32(d, at, x)
+}
 
 // One more of a list, behind a comma.
 fn put_next(d: &mut [u8], at: usize, x: u32, may_miss: bool) -> usize
@@ -18,7 +31,7 @@ fn put_next(d: &mut [u8], at: usize, x: u32, may_miss: bool) -> usize
     ensures { λ r. ⌜ Wrote (now (d .entry)) at (behindComma (spelled «may_miss») x) 11 r (now (d .exit)) ⌝ }
 {
     let a = text::put(d, at, b",");
-    text::put_item(d, a, x, may_miss)
+    put_item(d, a, x, may_miss)
 }
 
 // The n u32s from a place of the reply on, each behind a comma.
@@ -57,7 +70,7 @@ pub(crate) fn put_list(
         return at;
     }
     let a = text::put(d, at, name);
-    let b = text::put_item(d, a, wire::u32_at(reply, from), may_miss);
+    let b = put_item(d, a, wire::u32_at(reply, from), may_miss);
     put_more(d, b, reply, from + kinds::WORD, n - 1, may_miss)
 }
 

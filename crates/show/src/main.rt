@@ -3,7 +3,6 @@
 // says so.
 mod lists;
 mod replies;
-mod text;
 
 use paper::Reading;
 use stream::Read;

@@ -1,8 +1,8 @@
 // One line for each reply.
 use crate::lists;
-use crate::text;
 use format::kinds;
 use paper::Reading;
+use stream::text;
 use wire::flag_bytes;
 ghost use mathlib.Core.Path.{_≡_};
 ghost use Prim.Native.Nat.{_+_, _-_, _*_, _≤_};
@@ -13,7 +13,7 @@ ghost use Rattle.paper.specs.Kinds.{replyOffset, numberPlace, restPlace, wordWi
 ghost use Rattle.paper.specs.Kinds.{listsPlace};
 ghost use Rattle.paper.specs.Records.{kindOf};
 ghost use Rattle.paper.specs.Ledger.{readSerials, readTail, readBegun};
-ghost use Rattle.show.specs.Text.{Wrote};
+ghost use Rattle.stream.specs.Text.{Wrote};
 ghost use Rattle.show.specs.Lists.{shortText, longText, setsText};
 ghost use Rattle.show.specs.Lines.{kindWord, refusalWord, refusedText, doneText, flagsText, toldText, listedText};
 ghost use Rattle.show.specs.Lines.{begunAt, damagedText, saidText, lineOf, restOf};

@@ -1,11 +1,13 @@
 -- Text laid into a lent part of a buffer is laid into the buffer, and text behind text is laid as one.
 use Prim.Native.Nat.{ℕ, _+_, _≤_}
-use mathlib.Core.Path.{_≡_, refl, sym, ap, ap₂, _∙_}
+use mathlib.Core.Path.{_≡_, refl, sym, ap, ap₂, subst, _∙_}
 use mathlib.Core.List.{List, [], _++_, append-assoc}
+use native.Mathlib.Omega.{arith}
 use lib.ListN.{length, take, drop, length-append, take-append-drop}
-use lib.Seq.{take-at, drop-at, drop-drop, drop-append-le}
+use lib.Seq.{sets, sets-eq, take-at, drop-at, drop-drop, drop-append-le}
 use Rattle.wire.specs.Bytes.{over}
 use Rattle.stream.specs.Laid.{laidAt, Puts}
+use Rattle.stream.specs.Text.{Wrote}
 
 -- the part from `made` on, of which the k first bytes are lent
 pub laid-part : {part : List ℕ} (made k : ℕ) (text before : List ℕ) → length text ≤ length (take k (drop made before)) → part ≡ over text (take k (drop made before))
@@ -31,6 +33,18 @@ put-more {made} {len} {before} front text p n e =
           ∙ ap (λ (x : List ℕ). front ++ (text ++ x)) (drop-drop (length text) (length front) before ∙ ap (λ (k : ℕ). drop k before) (sym (length-append front text)))
           ∙ sym (append-assoc front text (drop (length (front ++ text)) before));
     }
+
+-- so is what a writer wrote there, within its room
+pub put-wrote : {made most r : ℕ} {before middle after : List ℕ} (front text : List ℕ) → Puts made front before middle → made + most ≤ length middle → Wrote middle made text most r after → Puts r (front ++ text) before after
+unfolding over
+put-wrote {made} {before = before} {middle = middle} {after = after} front text p h w =
+    let n = w .place in
+    let k = w .fits in
+    let e : sets middle made text ≡ laidAt made text middle =
+    sets-eq text middle made (omega arith)
+    ∙ append-assoc (take made middle) text (drop (made + length text) middle)
+    ∙ ap (λ (l : List ℕ). take made middle ++ (text ++ l)) (sym (drop-drop (length text) made middle)) in
+    subst (λ (m : ℕ). Puts m (front ++ text) before after) (sym n) (put-more front text p refl (w .bytes ∙ e))
 
 -- what was put is found again
 pub put-front : {made : ℕ} {text before after : List ℕ} → Puts made text before after → take made after ≡ text

@@ -1,2 +1,4 @@
 pub mod Turns
 pub mod Laid
+pub mod Text
+pub mod Files

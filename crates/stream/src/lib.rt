@@ -1,4 +1,8 @@
-// Bytes that wait between reads: read on behind them, and what was taken cut off in front.
+// Bytes that wait between reads: read on behind them, and what was taken cut off in front; the files that they come
+// from, and text.
+pub mod files;
+pub mod text;
+
 ghost use mathlib.Core.Path.{_≡_};
 ghost use Prim.Native.Nat.{min};
 ghost use Rattle.stream.specs.Turns.{Fed, shifted};
@@ -27,7 +31,7 @@ pub fn read_on(fd: i32, held: usize, bytes: &mut [u8]) -> Read
 }
 
 // The lesser of two places.
-fn lesser(a: usize, b: usize) -> usize
+pub fn lesser(a: usize, b: usize) -> usize
     ensures { λ r. ⌜ r ≡ min a b ⌝ }
 {
     if a < b { a } else { b }

@@ -4,11 +4,12 @@ use mathlib.Core.Path.{_≡_, refl}
 use mathlib.Core.List.{List}
 use mathlib.Core.Bool.{false, not}
 use borrow.Author.Needs.{needs}
-use Rattle.ledger.specs.declared.Feed.{Feed}
+use Rattle.stream.specs.declared.files.Feed.{Feed}
+use Rattle.stream.specs.Files.{Fed}
 use Rattle.ledger.specs.declared.State.{State}
 use Rattle.ledger.specs.declared.Move.{Move}
 use Rattle.ledger.specs.declared.Move.the-variants.{Records, Replies, Stop}
-use Rattle.ledger.specs.Turns.{Fed, stateOf, Went}
+use Rattle.ledger.specs.Turns.{stateOf, Went}
 use Rattle.ledger.proofs.go_on.Statement.{statement}
 use Rattle.ledger.proofs.go_on.Tie as tie
 

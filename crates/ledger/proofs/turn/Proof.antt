@@ -1,7 +1,6 @@
 -- What is taken lies within what is held, so the rest can be moved to the start. Where nothing is taken no exchange is whole.
 use mathlib.Core.Path.{sym}
 use lib.Seq.{length-take-le}
-use Rattle.format.proofs.Fitting.{within}
 use Rattle.ledger.proofs.Turning.{starved}
 use Rattle.ledger.proofs.Taking.{none-taken, takes}
 use borrow.Author.Needs.{needs}
@@ -47,16 +46,10 @@ shift-requires-2 : tie.Need-shift-requires-2
 shift-requires-2 c κs = search needs
 
 without-requires : tie.Need-without-requires
-without-requires c κs =
-    let call = c .before .before .before .before .before .before .before .before .before .before in
-    let st = call .before .before .before .before .before .before .before .before in
-    within (st .args .s .records .held) (st .args .records .now) (st .pre .0) (call .hear-all .ensures .taken)
+without-requires c κs = search needs
 
 without-requires-2 : tie.Need-without-requires-2
-without-requires-2 c κs =
-    let call = c .before .before .before .before .before .before .before .before .before .before .before in
-    let st = call .before .before .before .before .before .before .before .before in
-    within (st .args .s .replies .held) (st .args .replies .now) (st .pre .1) (call .hear-all .ensures .answered)
+without-requires-2 c κs = search needs
 
 plus-requires : tie.Need-plus-requires
 plus-requires c κs = search needs

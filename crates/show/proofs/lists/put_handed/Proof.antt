@@ -6,9 +6,9 @@ use native.Mathlib.Omega.{arith}
 use lib.ListN.{drop}
 use Rattle.paper.specs.Words.{flat}
 use Rattle.paper.specs.Ledger.{readShown}
-use Rattle.show.specs.Text.{ascii}
+use Rattle.stream.specs.Text.{ascii}
 use Rattle.show.specs.Lists.{behindComma, shownText}
-use Rattle.show.proofs.Spelling.{_then_, retold, roomier, blank}
+use Rattle.stream.proofs.Spelling.{_then_, retold, roomier, blank}
 use Rattle.show.proofs.Places.{no-shown, some-shown}
 use Rattle.show.proofs.lists.put_handed.Statement.{statement}
 use Rattle.show.proofs.lists.put_handed.Tie as tie

@@ -5,7 +5,7 @@ use borrow.Author.Needs.{needs}
 use native.Mathlib.Omega.{arith}
 use lib.ListN.{drop}
 use Rattle.show.specs.Text.{spelled}
-use Rattle.show.proofs.Spelling.{_then_, retold, roomier, blank}
+use Rattle.stream.proofs.Spelling.{_then_, retold, roomier, blank}
 use Rattle.show.proofs.Places.{no-words, some-words}
 use Rattle.show.proofs.lists.put_list.Statement.{statement}
 use Rattle.show.proofs.lists.put_list.Tie as tie

@@ -6,9 +6,10 @@ use native.Mathlib.Omega.{arith}
 use lib.ListN.{length, drop}
 use Rattle.paper.specs.Words.{flat}
 use Rattle.paper.specs.Ledger.{readWords}
-use Rattle.show.specs.Text.{spelled, Wrote}
+use Rattle.stream.specs.Text.{Wrote}
+use Rattle.show.specs.Text.{spelled}
 use Rattle.show.specs.Lists.{behindComma}
-use Rattle.show.proofs.Spelling.{_then_, retold, roomier, blank}
+use Rattle.stream.proofs.Spelling.{_then_, retold, roomier, blank}
 use Rattle.show.proofs.Places.{words-one}
 use Rattle.show.proofs.lists.put_more.Statement.{statement}
 use Rattle.show.proofs.lists.put_more.Tie as tie

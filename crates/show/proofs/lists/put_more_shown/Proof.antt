@@ -7,9 +7,9 @@ use lib.ListN.{length, drop}
 use Rattle.paper.specs.Words.{flat}
 use Rattle.paper.specs.Reading.{shownWidthIn}
 use Rattle.paper.specs.Ledger.{readShown}
-use Rattle.show.specs.Text.{Wrote}
+use Rattle.stream.specs.Text.{Wrote}
 use Rattle.show.specs.Lists.{behindComma, shownText, shownAt}
-use Rattle.show.proofs.Spelling.{_then_, retold, roomier, blank}
+use Rattle.stream.proofs.Spelling.{_then_, retold, roomier, blank}
 use Rattle.show.proofs.Places.{shown-one}
 use Rattle.show.proofs.lists.put_more_shown.Statement.{statement}
 use Rattle.show.proofs.lists.put_more_shown.Tie as tie

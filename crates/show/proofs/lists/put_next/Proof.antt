@@ -1,6 +1,6 @@
 -- A comma, then the item.
 use borrow.Author.Needs.{needs}
-use Rattle.show.proofs.Spelling.{_then_}
+use Rattle.stream.proofs.Spelling.{_then_}
 use Rattle.show.proofs.lists.put_next.Statement.{statement}
 use Rattle.show.proofs.lists.put_next.Tie as tie
 

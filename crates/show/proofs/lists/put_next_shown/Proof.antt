@@ -1,6 +1,6 @@
 -- A comma, then the picture.
 use borrow.Author.Needs.{needs}
-use Rattle.show.proofs.Spelling.{_then_}
+use Rattle.stream.proofs.Spelling.{_then_}
 use Rattle.show.proofs.lists.put_next_shown.Statement.{statement}
 use Rattle.show.proofs.lists.put_next_shown.Tie as tie
 

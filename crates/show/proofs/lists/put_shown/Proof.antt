@@ -4,9 +4,9 @@ use Prim.Native.Nat.{ℕ}
 use mir.Val.{toZ}
 use mir.Syntax.{w32}
 use borrow.Author.Needs.{needs}
-use Rattle.show.specs.Text.{decimal, integer}
+use Rattle.stream.specs.Text.{decimal, integer}
 use Rattle.show.specs.Lists.{shownText}
-use Rattle.show.proofs.Spelling.{_then_, retold}
+use Rattle.stream.proofs.Spelling.{_then_, retold}
 use Rattle.show.proofs.lists.put_shown.Statement.{statement}
 use Rattle.show.proofs.lists.put_shown.Tie as tie
 

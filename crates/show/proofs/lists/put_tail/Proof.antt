@@ -3,7 +3,7 @@ use Prim.Native.Nat.{_+_, _*_}
 use mathlib.Core.Path.{_≡_, sym, _∙_}
 use borrow.Author.Needs.{needs}
 use native.Mathlib.Omega.{arith}
-use Rattle.show.proofs.Spelling.{_then_, retold, roomier}
+use Rattle.stream.proofs.Spelling.{_then_, retold, roomier}
 use Rattle.format.proofs.Ends.{past-count}
 use Rattle.paper.specs.Kinds.{shownWidth}
 use Rattle.show.proofs.Places.{tail-behind}

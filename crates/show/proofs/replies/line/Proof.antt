@@ -1,7 +1,7 @@
 -- The number, the reply and a line feed.
 use borrow.Author.Needs.{needs}
 use Rattle.show.specs.Lines.{lineOf}
-use Rattle.show.proofs.Spelling.{_then_, from-start}
+use Rattle.stream.proofs.Spelling.{_then_, from-start}
 use Rattle.show.proofs.replies.line.Statement.{statement}
 use Rattle.show.proofs.replies.line.Tie as tie
 

@@ -5,7 +5,7 @@ use mathlib.Core.List.{List}
 use borrow.Author.Needs.{needs}
 use Rattle.paper.specs.Ledger.{readTail}
 use Rattle.show.specs.Lists.{tailText}
-use Rattle.show.proofs.Spelling.{_then_, retold}
+use Rattle.stream.proofs.Spelling.{_then_, retold}
 use Rattle.show.proofs.Wording.{begun-tail}
 use Rattle.show.proofs.replies.put_begun.Statement.{statement}
 use Rattle.show.proofs.replies.put_begun.Tie as tie

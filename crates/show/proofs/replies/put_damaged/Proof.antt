@@ -1,9 +1,9 @@
 -- The length and the kind.
 use mathlib.Core.Path.{ap}
 use borrow.Author.Needs.{needs}
-use Rattle.show.specs.Text.{decimal}
+use Rattle.stream.specs.Text.{decimal}
 use Rattle.show.specs.Lines.{damagedText}
-use Rattle.show.proofs.Spelling.{_then_, retold}
+use Rattle.stream.proofs.Spelling.{_then_, retold}
 use Rattle.show.proofs.replies.put_damaged.Statement.{statement}
 use Rattle.show.proofs.replies.put_damaged.Tie as tie
 

@@ -3,7 +3,7 @@ use mathlib.Core.Path.{ap}
 use Prim.Native.Nat.{ℕ, _-_}
 use borrow.Author.Needs.{needs}
 use Rattle.show.specs.Lines.{kindWord, doneText}
-use Rattle.show.proofs.Spelling.{_then_, retold}
+use Rattle.stream.proofs.Spelling.{_then_, retold}
 use Rattle.show.proofs.replies.put_done.Statement.{statement}
 use Rattle.show.proofs.replies.put_done.Tie as tie
 

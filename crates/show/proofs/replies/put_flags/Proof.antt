@@ -4,7 +4,7 @@ use borrow.Author.Tests.{not-true, not-false}
 use borrow.Author.Needs.{needs}
 use native.Mathlib.Omega.{arith}
 use Rattle.paper.specs.Numbers.{bit}
-use Rattle.show.proofs.Spelling.{_then_, retold, roomier}
+use Rattle.stream.proofs.Spelling.{_then_, retold, roomier}
 use Rattle.show.proofs.Wording.{spare-flags, plain-flags}
 use Rattle.show.proofs.replies.put_flags.Statement.{statement}
 use Rattle.show.proofs.replies.put_flags.Tie as tie

@@ -4,7 +4,7 @@ use Prim.Native.Nat.{ℕ, _-_}
 use borrow.Author.Needs.{needs}
 use native.Mathlib.Omega.{arith}
 use Rattle.show.specs.Lines.{kindWord}
-use Rattle.show.proofs.Spelling.{retold, roomier}
+use Rattle.stream.proofs.Spelling.{retold, roomier}
 use Rattle.show.proofs.Wording.{other-reply}
 use Rattle.show.proofs.replies.put_kind.Statement.{statement}
 use Rattle.show.proofs.replies.put_kind.Tie as tie

@@ -3,7 +3,7 @@ use mathlib.Core.Path.{sym, ap}
 use borrow.Author.Needs.{needs}
 use native.Mathlib.Omega.{arith}
 use Rattle.show.specs.Lines.{refusalWord}
-use Rattle.show.proofs.Spelling.{retold, roomier}
+use Rattle.stream.proofs.Spelling.{retold, roomier}
 use Rattle.show.proofs.Wording.{other-refusal}
 use Rattle.show.proofs.replies.put_reason.Statement.{statement}
 use Rattle.show.proofs.replies.put_reason.Tie as tie

@@ -2,9 +2,9 @@
 use mathlib.Core.Path.{ap}
 use Prim.Native.Nat.{ℕ, _-_}
 use borrow.Author.Needs.{needs}
-use Rattle.show.specs.Text.{decimal}
+use Rattle.stream.specs.Text.{decimal}
 use Rattle.show.specs.Lines.{kindWord, refusalWord, refusedText}
-use Rattle.show.proofs.Spelling.{_then_, retold}
+use Rattle.stream.proofs.Spelling.{_then_, retold}
 use Rattle.show.proofs.replies.put_refused.Statement.{statement}
 use Rattle.show.proofs.replies.put_refused.Tie as tie
 

@@ -3,7 +3,7 @@ use mathlib.Core.Path.{sym, _∙_}
 use borrow.Author.Tests.{not-true, not-false}
 use borrow.Author.Needs.{needs}
 use native.Mathlib.Omega.{arith}
-use Rattle.show.proofs.Spelling.{retold, roomier}
+use Rattle.stream.proofs.Spelling.{retold, roomier}
 use Rattle.show.proofs.Wording.{said-damaged, said-refused, said-begun, said-listed, said-done}
 use Rattle.show.proofs.replies.put_reply.Statement.{statement}
 use Rattle.show.proofs.replies.put_reply.Tie as tie

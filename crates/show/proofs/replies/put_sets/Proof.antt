@@ -1,6 +1,6 @@
 -- The short-term sets, then the long-term ones.
 use borrow.Author.Needs.{needs}
-use Rattle.show.proofs.Spelling.{_then_}
+use Rattle.stream.proofs.Spelling.{_then_}
 use Rattle.show.proofs.replies.put_sets.Statement.{statement}
 use Rattle.show.proofs.replies.put_sets.Tie as tie
 

@@ -5,9 +5,9 @@ use mir.Val.{toZ}
 use mir.Syntax.{w32}
 use borrow.Author.Needs.{needs}
 use Rattle.paper.specs.Numbers.{bit}
-use Rattle.show.specs.Text.{decimal, integer}
+use Rattle.stream.specs.Text.{decimal, integer}
 use Rattle.show.specs.Lines.{flagsText}
-use Rattle.show.proofs.Spelling.{_then_, retold}
+use Rattle.stream.proofs.Spelling.{_then_, retold}
 use Rattle.show.proofs.Wording.{told-at}
 use Rattle.show.proofs.replies.put_told.Statement.{statement}
 use Rattle.show.proofs.replies.put_told.Tie as tie

@@ -2,7 +2,7 @@
 use borrow.Author.Needs.{needs}
 use native.Mathlib.Omega.{arith}
 use Rattle.show.specs.Lines.{restOf}
-use Rattle.show.proofs.Spelling.{_then_, from-start, roomier}
+use Rattle.stream.proofs.Spelling.{_then_, from-start, roomier}
 use Rattle.show.proofs.replies.rest.Statement.{statement}
 use Rattle.show.proofs.replies.rest.Tie as tie
 

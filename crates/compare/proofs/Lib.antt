@@ -1,0 +1,10 @@
+pub mod Counting
+pub mod Placing
+pub mod Numbering
+pub mod Comparing
+pub mod Examples
+pub mod Places
+pub mod Pairing
+pub mod Lining
+pub mod Turning
+pub mod Running

@@ -1,0 +1,5 @@
+pub mod Lines
+pub mod Facts
+pub mod Examples
+pub mod Pairs
+pub mod Turns

@@ -1,0 +1,80 @@
+#!/usr/bin/env python3
+"""tools/lib/status.py passes on what a command writes, byte for byte and at once, and ends with 0, 1 or 2 by the rule
+of `compare`: nothing written, something, or an error. Status 1 at the first that is not so."""
+import os
+import pathlib
+import signal
+import subprocess
+import sys
+
+SCRIPT = pathlib.Path(__file__).resolve().parents[2] / "tools" / "lib" / "status.py"
+UNWRITTEN = b"compare: standard output can't be written\n"
+
+
+def command(text):
+    return [sys.executable, "-IS", str(SCRIPT), "compare", "sh", "-c", text]
+
+
+def ended(words, **ends):
+    ends = {"stdout": subprocess.PIPE} | ends
+    done = subprocess.run(words, stderr=subprocess.PIPE, timeout=60, check=False, **ends)
+    return done.stdout or b"", done.stderr, done.returncode
+
+
+def closed(text, ends):
+    return ["sh", "-c", f'exec "$@" {ends}', "sh", *command(text)]
+
+
+def plain():
+    """Commands, and what is to come of each."""
+    yield ended(command("true")), (b"", b"", 0)
+    yield ended(command("echo line")), (b"line\n", b"", 1)
+    yield ended(command("echo bad >&2")), (b"", b"bad\n", 2)
+    yield ended(command("echo line; echo bad >&2; echo more")), (b"line\nmore\n", b"bad\n", 2)
+    yield ended(command("exit 3")), (b"", b"compare: ended with status 3\n", 2)
+    yield ended(command("echo line; kill -9 $$")), (b"line\n", b"compare: ended by signal 9\n", 2)
+    yield ended(command("head -c 30000000 /dev/zero")), (bytes(30000000), b"", 1)
+    yield ended([*command("")[:4], "/no/such/program"]), (b"", b"/no/such/program: No such file or directory\n", 2)
+    yield ended(command("cat"), input=b"of standard input"), (b"of standard input", b"", 1)
+
+
+def refusing():
+    """Ends that take nothing."""
+    with open("/dev/full", "wb") as full:
+        yield ended(command("echo line"), stdout=full), (b"", UNWRITTEN, 2)
+        yield ended(command("true"), stdout=full), (b"", b"", 0)
+    yield ended(closed("echo line; sleep 60", ">&-")), (b"", UNWRITTEN, 2)
+    yield ended(closed("true", ">&-")), (b"", b"", 0)
+    yield ended(closed("echo line", "<&- 2>&-")), (b"line\n", b"", 1)
+    yield ended(closed("echo bad >&2", "<&- >&- 2>&-")), (b"", b"", 2)
+    yield ended(closed("cat; echo line", "<&- 2>/dev/null")), (b"line\n", b"", 2)
+    out, into = os.pipe()
+    os.close(out)
+    yield ended(command("yes"), stdout=into), (b"", UNWRITTEN, 2)
+    os.close(into)
+
+
+def at_once():
+    """A line is there while the command still runs; a signal ends both."""
+    words = command('echo $$; exec sleep 60')
+    with subprocess.Popen(words, stdout=subprocess.PIPE, bufsize=0) as run:
+        child = int(run.stdout.readline())
+        run.send_signal(signal.SIGTERM)
+        yield run.wait(timeout=30), -signal.SIGTERM
+    yield pathlib.Path(f"/proc/{child}").exists(), False
+
+
+def main():
+    count = 0
+    for part in (plain, refusing, at_once):
+        for found, asked in part():
+            count += 1
+            if found != asked:
+                print(f"{part.__name__}, {count}: {found!r:.300}, and {asked!r:.300} is asked")
+                return 1
+    print(f"{count} ends of a command, each with its status")
+    return 0
+
+
+if __name__ == "__main__":
+    sys.exit(main())
