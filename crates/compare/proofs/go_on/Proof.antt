@@ -40,12 +40,13 @@ same-length c = search needs
 
 returns : tie.Need-returns
 returns c =
-    let tested = c .before .before .before .before .before .before in
+    let at-read-on = c .before .before .before .before in
+    let tested = at-read-on .before .before in
     let st = tested .before .before .before .before .before .before .before .before in
     let a = st .args in
     let f = a .s .first in
     went-first (a .s) (a .first .now) (a .second .now) (unready (f .ended) (waiting f (a .first .now)) (tested .before .before .reply-size .ensures) (tested .if1 .taken)) (c .fed .ensures)
-    (c .before .before .before .before .read-on .ensures)
+    (at-read-on .read-on .ensures)
 
 slice-reshare-prefix-reply-size-2 : tie.Need-slice-reshare-prefix-reply-size-2
 slice-reshare-prefix-reply-size-2 c = search needs
@@ -70,14 +71,15 @@ same-length-3 c = search needs
 
 returns-2 : tie.Need-returns-2
 returns-2 c =
-    let second = c .before .before .before .before .before .before in
+    let at-read-on2 = c .before .before .before .before in
+    let second = at-read-on2 .before .before in
     let tested = second .before .before .before .before in
     let st = tested .before .before .before .before .before .before .before .before in
     let a = st .args in
     let f = a .s .first in
     let g = a .s .second in
     went-second (a .s) (a .first .now) (a .second .now) (is-ready (f .ended) (waiting f (a .first .now)) (tested .before .before .reply-size .ensures) (tested .if1 .left))
-    (unready (g .ended) (waiting g (a .second .now)) (second .before .before .reply-size2 .ensures) (second .if2 .taken)) (c .fed2 .ensures) (c .before .before .before .before .read-on2 .ensures)
+    (unready (g .ended) (waiting g (a .second .now)) (second .before .before .reply-size2 .ensures) (second .if2 .taken)) (c .fed2 .ensures) (at-read-on2 .read-on2 .ensures)
 
 fed-requires-3 : tie.Need-fed-requires-3
 fed-requires-3 c κs = search needs

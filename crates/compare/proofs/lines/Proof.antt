@@ -85,16 +85,22 @@ returns c =
 
 add-e : tie.Need-add-e Inv-loop μ-loop
 add-e c =
-    let l = c .before .before .before .before .before .before .before .loop in
-    let a = c .before .before .before .before .before .before .before .before .before .before .before .args in
-    let k = off-fits (a .first-ended) (a .first .now) (l .i) (l .inv .0) (size-at (a .first-ended) (a .first .now) (l .i) (c .before .before .before .before .reply-size .ensures)) in
+    let at-reply-size = c .before .before .before .before in
+    let at-loop = at-reply-size .before .before .before in
+    let s = at-loop .before .before .before .before in
+    let l = at-loop .loop in
+    let a = s .args in
+    let k = off-fits (a .first-ended) (a .first .now) (l .i) (l .inv .0) (size-at (a .first-ended) (a .first .now) (l .i) (at-reply-size .reply-size .ensures)) in
     omega (arith, k)
 
 add-f : tie.Need-add-f Inv-loop μ-loop
 add-f c =
-    let l = c .before .before .before .before .before .before .before .loop in
-    let a = c .before .before .before .before .before .before .before .before .before .before .before .args in
-    let k = off-fits (a .second-ended) (a .second .now) (l .j) (l .inv .1) (size-at (a .second-ended) (a .second .now) (l .j) (c .before .before .reply-size2 .ensures)) in
+    let at-reply-size2 = c .before .before in
+    let at-loop = at-reply-size2 .before .before .before .before .before in
+    let s = at-loop .before .before .before .before in
+    let l = at-loop .loop in
+    let a = s .args in
+    let k = off-fits (a .second-ended) (a .second .now) (l .j) (l .inv .1) (size-at (a .second-ended) (a .second .now) (l .j) (at-reply-size2 .reply-size2 .ensures)) in
     omega (arith, k)
 
 sub-put-line : tie.Need-sub-put-line Inv-loop μ-loop
@@ -105,9 +111,12 @@ part-put-line-start c = search needs
 
 part-put-line-end : tie.Need-part-put-line-end Inv-loop μ-loop
 part-put-line-end c =
-    let l = c .before .before .before .before .before .before .before .before .loop in
-    let a = c .before .before .before .before .before .before .before .before .before .before .before .before .args in
-    off-fits (a .first-ended) (a .first .now) (l .i) (l .inv .0) (size-at (a .first-ended) (a .first .now) (l .i) (c .before .before .before .before .before .reply-size .ensures))
+    let at-reply-size = c .before .before .before .before .before in
+    let at-loop = at-reply-size .before .before .before in
+    let s = at-loop .before .before .before .before in
+    let l = at-loop .loop in
+    let a = s .args in
+    off-fits (a .first-ended) (a .first .now) (l .i) (l .inv .0) (size-at (a .first-ended) (a .first .now) (l .i) (at-reply-size .reply-size .ensures))
 
 sub-put-line-2 : tie.Need-sub-put-line-2 Inv-loop μ-loop
 sub-put-line-2 c = search needs
@@ -117,9 +126,12 @@ part-put-line-start-2 c = search needs
 
 part-put-line-end-2 : tie.Need-part-put-line-end-2 Inv-loop μ-loop
 part-put-line-end-2 c =
-    let l = c .before .before .before .before .before .before .before .before .before .loop in
-    let a = c .before .before .before .before .before .before .before .before .before .before .before .before .before .args in
-    off-fits (a .second-ended) (a .second .now) (l .j) (l .inv .1) (size-at (a .second-ended) (a .second .now) (l .j) (c .before .before .before .before .reply-size2 .ensures))
+    let at-reply-size2 = c .before .before .before .before in
+    let at-loop = at-reply-size2 .before .before .before .before .before in
+    let s = at-loop .before .before .before .before in
+    let l = at-loop .loop in
+    let a = s .args in
+    off-fits (a .second-ended) (a .second .now) (l .j) (l .inv .1) (size-at (a .second-ended) (a .second .now) (l .j) (at-reply-size2 .reply-size2 .ensures))
 
 put-line-requires : tie.Need-put-line-requires Inv-loop μ-loop
 put-line-requires c κs = search needs
@@ -144,7 +156,8 @@ loop-less c =
 
 loop-again : tie.Need-loop-again Inv-loop μ-loop
 loop-again c =
-    let tested = c .before .before .before .before .before .before in
+    let at-put-line = c .before .before in
+    let tested = at-put-line .before .before .before .before in
     let l = tested .before .before .before .before .before .before .before .loop in
     let a = tested .before .before .before .before .before .before .before .before .before .before .before .args in
     let first = a .first .now in
@@ -154,7 +167,7 @@ loop-again c =
     let n = size-at (a .first-ended) first (l .i) (tested .before .before .before .before .reply-size .ensures) in
     let m = size-at (a .second-ended) second (l .j) (tested .before .before .reply-size2 .ensures) in
     let t = went (tested .before .goes .result) (tested .before .goes .ensures) (tested .if1 .left) in
-    let p = c .before .before .put-line in
+    let p = at-put-line .put-line in
     let s = p .kept .0 in
     let f = p .ensures .fits in
     let h = tested .before .before .before .before .before .before .loop-test .taken in (

@@ -36,7 +36,8 @@ same-length-3 c = search needs
 
 returns : tie.Need-returns
 returns c =
-    let tested = c .before .before .before .before .before .before .before in
+    let at-go-on = c .before .before .before .before in
+    let tested = at-go-on .before .before .before in
     let call = tested .before .before .before in
     let seen = call .before .before .before .before .before .before .before in
     let known = seen .before in
@@ -45,7 +46,7 @@ returns c =
     let p = st .pre in
     let l = call .lines .ensures in
     let w = none-waits (a .s) (a .first .now) (a .second .now) (l .1 .0) (tested .if1 .taken) (l .1 .1) (p .1 .2) in
-    starved (a .s) (a .first .now) (a .second .now) (p .0 .0) (p .0 .1) (w .0) (w .1) (c .before .before .before .before .go-on .ensures)
+    starved (a .s) (a .first .now) (a .second .now) (p .0 .0) (p .0 .1) (w .0) (w .1) (at-go-on .go-on .ensures)
     (λ z. room-left (a .s .first .held) (a .first .now) (λ k. known .slice-known .given k .fits) (p .1 .0) (p .0 .0) z, λ z. room-left (a .s .second .held) (a .second .now) (λ k. seen .slice-known2 .given k .fits) (p .1 .1) (p .0 .1) z)
 
 slice-reshare-prefix-write-all : tie.Need-slice-reshare-prefix-write-all
@@ -80,7 +81,8 @@ same-length-6 c = search needs
 
 returns-2 : tie.Need-returns-2
 returns-2 c =
-    let moved = c .before .before .before .before .before .before .before .before in
+    let at-shift2 = c .before .before .before .before in
+    let moved = at-shift2 .before .before .before .before in
     let tested = moved .before .before .before .before in
     let call = tested .before .before .before in
     let seen = call .before .before .before .before .before .before .before in
@@ -90,7 +92,7 @@ returns-2 c =
     let p = st .pre in
     let l = call .lines .ensures in
     rw (c .before .without .ensures, c .without2 .ensures)
-    (lined (a .s) (a .first .now) (a .second .now) (p .0 .0) (p .0 .1) (l .0 .0) (l .0 .1) (l .1 .0) (moved .before .before .write-all .result) (moved .shift .ensures) (c .before .before .before .before .shift2 .ensures)
+    (lined (a .s) (a .first .now) (a .second .now) (p .0 .0) (p .0 .1) (l .0 .0) (l .0 .1) (l .1 .0) (moved .before .before .write-all .result) (moved .shift .ensures) (at-shift2 .shift2 .ensures)
     (some-waits (a .s) (a .first .now) (a .second .now) (l .1 .0) (tested .if1 .left)) (λ z. room-left (a .s .first .held) (a .first .now) (λ k. known .slice-known .given k .fits) (p .1 .0) (p .0 .0) z, λ z. room-left (a .s .second .held) (a .second .now) (λ k. seen .slice-known2 .given k .fits) (p .1 .1) (p .0 .1) z))
 
 pub turn-spec : {M : Type 1} → statement M

@@ -52,21 +52,26 @@ same-length c = search needs
 
 returns : tie.Need-returns
 returns c =
-    let st = c .before .before .before .before .before .before .before .before .before .before .before .before in
-    went-records (st .args .s) (st .args .m) (st .args .records .now) (st .args .replies .now) (c .before .before .before .before .before .before .enum-told .given .1) (c .fed .ensures) (c .before .before .before .before .read-on .ensures)
+    let at-read-on = c .before .before .before .before in
+    let at-enum-told = at-read-on .before .before in
+    let st = at-enum-told .before .before .before .before .before .before in
+    went-records (st .args .s) (st .args .m) (st .args .records .now) (st .args .replies .now) (at-enum-told .enum-told .given .1) (c .fed .ensures) (at-read-on .read-on .ensures)
 
 same-length-2 : tie.Need-same-length-2
 same-length-2 c = search needs
 
 returns-2 : tie.Need-returns-2
 returns-2 c =
-    let st = c .before .before .before .before .before .before .before .before .before .before .before .before in
-    went-replies (st .args .s) (st .args .m) (st .args .records .now) (st .args .replies .now) (c .before .before .before .before .before .before .enum-told2 .given .1) (c .fed2 .ensures) (c .before .before .before .before .read-on2 .ensures)
+    let at-read-on2 = c .before .before .before .before in
+    let at-enum-told2 = at-read-on2 .before .before in
+    let st = at-enum-told2 .before .before .before .before .before .before in
+    went-replies (st .args .s) (st .args .m) (st .args .records .now) (st .args .replies .now) (at-enum-told2 .enum-told2 .given .1) (c .fed2 .ensures) (at-read-on2 .read-on2 .ensures)
 
 returns-3 : tie.Need-returns-3
 returns-3 c =
-    let st = c .before .before .before .before .before .before .before .before in
-    went-stop (st .args .s) (st .args .m) (st .args .records .now) (st .args .replies .now) (c .before .before .m .given .1) (c .fed3 .ensures)
+    let at-m = c .before .before in
+    let st = at-m .before .before .before .before .before .before in
+    went-stop (st .args .s) (st .args .m) (st .args .records .now) (st .args .replies .now) (at-m .m .given .1) (c .fed3 .ensures)
 
 pub go-on-spec : {M : Type 1} → statement M
 go-on-spec =

@@ -36,9 +36,12 @@ same-length-2 c = search needs
 
 returns : tie.Need-returns Inv-loop μ-loop
 returns c =
-    let v = c .before .before .before .before .before .before .before .before .before .before .loop .inv in
-    let f = c .before .before .before .before .before .before .before .before .before .before .before .before .before .before .fits in
-    let t = c .before .before .before .before .before .before .turn .ensures in
+    let at-turn = c .before .before .before .before .before .before in
+    let at-loop = at-turn .before .before .before .before in
+    let s = at-loop .before .before .before .before in
+    let v = at-loop .loop .inv in
+    let f = s .fits in
+    let t = at-turn .turn .ensures in
     rw (toZ-ofZ (f .records-fd), toZ-ofZ (f .replies-fd)) at (judges _ _ _ (one-turn _ Turning _ _ (v .5) (v .4, t)))
 
 sub-left : tie.Need-sub-left Inv-loop μ-loop
@@ -49,8 +52,10 @@ loop-less c = search needs
 
 loop-again : tie.Need-loop-again Inv-loop μ-loop
 loop-again c =
-    let l = c .before .before .before .before .before .before .before .before .before .before .loop in
-    let t = c .before .before .before .before .before .before .turn in
+    let at-turn = c .before .before .before .before .before .before in
+    let at-loop = at-turn .before .before .before .before in
+    let l = at-loop .loop in
+    let t = at-turn .turn in
     let m = yes-of (t .result .more) (c .if1 .left) in
     (search needs, search needs, search needs, search needs, m, one-turn _ Turning _ _ (l .inv .5) (l .inv .4, t .ensures))
 

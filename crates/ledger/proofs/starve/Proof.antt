@@ -41,12 +41,17 @@ same-length-2 c = search needs
 
 returns : tie.Need-returns
 returns c =
-    let s = c .before .before .before .before .before .before .before .before .before .before .before .before .before .before .before .before .args in
+    let at-go-on = c .before .before .before .before in
+    let at-next-move = at-go-on .before .before .before in
+    let at-size2 = at-next-move .before in
+    let at-size = at-size2 .before .before in
+    let start = at-size .before .before .before .before .before .before in
+    let s = start .args in
     let a = s .s .records in
     let b = s .s .replies in
-    let e : c .before .before .before .before .before .before .before .next-move .result ≡ wants (s .s) (s .records .now) (s .replies .now) =
-    c .before .before .before .before .before .before .before .next-move .ensures ∙ ap₂ (λ (n m : ℕ). moveOf (ltb 0 n) (a .ended) (ltb 0 m) (b .ended) (ltb 0 (b .held))) (c .before .before .before .before .before .before .before .before .before .before .size .ensures) (c .before .before .before .before .before .before .before .before .size2 .ensures) in
-    rw e at (c .before .before .before .before .go-on .ensures)
+    let e : at-next-move .next-move .result ≡ wants (s .s) (s .records .now) (s .replies .now) =
+    at-next-move .next-move .ensures ∙ ap₂ (λ (n m : ℕ). moveOf (ltb 0 n) (a .ended) (ltb 0 m) (b .ended) (ltb 0 (b .held))) (at-size .size .ensures) (at-size2 .size2 .ensures) in
+    rw e at (at-go-on .go-on .ensures)
 
 pub starve-spec : {M : Type 1} → statement M
 starve-spec =

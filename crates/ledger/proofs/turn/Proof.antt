@@ -33,11 +33,13 @@ same-length-2 c = search needs
 
 returns : tie.Need-returns
 returns c =
-    let call = c .before .before .before .before .before .before .before .before in
+    let at-starve = c .before .before .before .before in
+    let at-if1 = at-starve .before .before .before in
+    let call = at-if1 .before in
     let st = call .before .before .before .before .before .before .before .before in
     let a = st .args in
-    let z = none-taken (a .s) (a .records .now) (a .replies .now) (st .pre .0) (st .pre .1) (call .hear-all .ensures) (c .before .before .before .before .before .before .before .if1 .taken) in
-    starved (a .s) (a .records .now) (a .replies .now) (st .pre .0) (st .pre .1) z (c .before .before .before .before .starve .ensures)
+    let z = none-taken (a .s) (a .records .now) (a .replies .now) (st .pre .0) (st .pre .1) (call .hear-all .ensures) (at-if1 .if1 .taken) in
+    starved (a .s) (a .records .now) (a .replies .now) (st .pre .0) (st .pre .1) z (at-starve .starve .ensures)
 
 shift-requires : tie.Need-shift-requires
 shift-requires c κs = search needs
@@ -62,13 +64,14 @@ same-length-4 c = search needs
 
 returns-2 : tie.Need-returns-2
 returns-2 c =
-    let moved = c .before .before .before .before .before .before .before in
+    let at-without = c .before .before .before in
+    let moved = at-without .before .before .before .before in
     let first = moved .before .before .before .before in
     let tested = first .before .before in
     let call = tested .before in
     let st = call .before .before .before .before .before .before .before .before in
     let a = st .args in
-    rw (c .before .plus .ensures, c .before .before .before .without .ensures, c .before .before .without2 .ensures)
+    rw (c .before .plus .ensures, at-without .without .ensures, c .before .before .without2 .ensures)
     (takes (a .s) (a .records .now) (a .replies .now) (st .pre .0) (st .pre .1) (call .hear-all .ensures) (first .shift .ensures) (moved .shift2 .ensures) (tested .if1 .left))
 
 pub turn-spec : {M : Type 1} → statement M

@@ -46,8 +46,10 @@ returns c =
 
 add-e : tie.Need-add-e Inv-loop μ-loop
 add-e c =
-    let l = c .before .before .before .before .loop in
-    let k = size-end (c .before .before .before .before .before .before .before .args .bytes .now) (l .taken) (c .before .size .ensures) (l .inv .0) in
+    let at-loop = c .before .before .before .before in
+    let s = at-loop .before .before .before in
+    let l = at-loop .loop in
+    let k = size-end (s .args .bytes .now) (l .taken) (c .before .size .ensures) (l .inv .0) in
     omega (arith, k)
 
 sub-reply-to : tie.Need-sub-reply-to Inv-loop μ-loop
@@ -58,35 +60,50 @@ part-reply-to-start c = search needs
 
 part-reply-to-end : tie.Need-part-reply-to-end Inv-loop μ-loop
 part-reply-to-end c =
-    let l = c .before .before .before .before .before .before .before .loop in
-    size-end (c .before .before .before .before .before .before .before .before .before .before .args .bytes .now) (l .taken) (c .before .before .before .before .size .ensures) (l .inv .0)
+    let at-size = c .before .before .before .before in
+    let at-loop = at-size .before .before .before in
+    let s = at-loop .before .before .before in
+    let l = at-loop .loop in
+    size-end (s .args .bytes .now) (l .taken) (at-size .size .ensures) (l .inv .0)
 
 reply-to-requires : tie.Need-reply-to-requires Inv-loop μ-loop
 reply-to-requires c κs = search needs
 
 add-made : tie.Need-add-made Inv-loop μ-loop
 add-made c =
-    let l = c .before .before .before .before .before .before .before .before .before .before .before .before .before .loop in
-    let a = c .before .before .before .reply-to in
+    let at-reply-to = c .before .before .before in
+    let at-loop = at-reply-to .before .before .before .before .before .before .before .before .before .before in
+    let s = at-loop .before .before .before in
+    let l = at-loop .loop in
+    let a = at-reply-to .reply-to in
     let k : l .made + a .result .len ≤ length (l .replies) = a .ensures .fits in
-    let g = c .before .before .before .before .before .before .before .before .before .before .before .before .before .before .before .before .good .1 .1 .1 .1 .0 in
+    let g = s .good .1 .1 .1 .1 .0 in
     omega (arith, k, l .inv .2, g)
 
 loop-less : tie.Need-loop-less Inv-loop μ-loop
 loop-less c =
-    let l = c .before .before .before .before .before .before .before .before .before .before .before .before .before .loop in
-    let n = c .before .before .before .before .before .before .before .before .before .before .size in
-    let k = size-end (c .before .before .before .before .before .before .before .before .before .before .before .before .before .before .before .before .args .bytes .now) (l .taken) (n .ensures) (l .inv .0) in
-    let h = c .before .before .before .before .before .before .before .before .before .if1 .left in
+    let at-if1 = c .before .before .before .before .before .before .before .before .before in
+    let at-size = at-if1 .before in
+    let at-loop = at-size .before .before .before in
+    let s = at-loop .before .before .before in
+    let l = at-loop .loop in
+    let n = at-size .size in
+    let k = size-end (s .args .bytes .now) (l .taken) (n .ensures) (l .inv .0) in
+    let h = at-if1 .if1 .left in
     omega (arith, k, h)
 
 loop-again : tie.Need-loop-again Inv-loop μ-loop
 loop-again c =
-    let l = c .before .before .before .before .before .before .before .before .before .before .before .before .before .loop in
-    let n = c .before .before .before .before .before .before .before .before .before .before .size in
-    let k = size-end (c .before .before .before .before .before .before .before .before .before .before .before .before .before .before .before .before .args .bytes .now) (l .taken) (n .ensures) (l .inv .0) in
-    let h = c .before .before .before .before .before .before .before .before .before .if1 .left in
-    let a = c .before .before .before .reply-to in
+    let at-reply-to = c .before .before .before in
+    let at-if1 = at-reply-to .before .before .before .before .before .before in
+    let at-size = at-if1 .before in
+    let at-loop = at-size .before .before .before in
+    let start = at-loop .before .before .before in
+    let l = at-loop .loop in
+    let n = at-size .size in
+    let k = size-end (start .args .bytes .now) (l .taken) (n .ensures) (l .inv .0) in
+    let h = at-if1 .if1 .left in
+    let a = at-reply-to .reply-to in
     let s = a .kept .1 .1 .1 .1 .0 in
     let f = a .ensures .fits in
     (k, omega (arith, f, s), s ∙ l .inv .2, one-answered (l .taken) (l .made) (n .result) _ (omega (arith, h)) (size-at _ (l .taken) (n .ensures)) (l .inv .3) (a .ensures))

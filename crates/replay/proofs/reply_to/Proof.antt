@@ -21,8 +21,9 @@ same-length c = search needs
 
 returns : tie.Need-returns
 returns c =
-    let s = c .before .before .before .before .before .before .before .before .before in
-    let st = c .before .before .step in
+    let at-step = c .before .before in
+    let s = at-step .before .before .before .before .before .before .before in
+    let st = at-step .step in
     added (s .args .made) (s .args .replies .now) (s .pre) (st .kept .1 .1 .1 .1 .0) (st .ensures)
 
 pub reply-to-spec : {M : Type 1} → statement M

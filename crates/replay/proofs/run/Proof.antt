@@ -37,8 +37,10 @@ same-length-2 c = search needs
 
 returns : tie.Need-returns Inv-loop μ-loop
 returns c =
-    let l = c .before .before .before .before .before .before .before .before .before .before .before .before .before .loop in
-    let t = c .before .before .before .before .before .before .turn in
+    let at-turn = c .before .before .before .before .before .before in
+    let at-loop = at-turn .before .before .before .before .before .before .before in
+    let l = at-loop .loop in
+    let t = at-turn .turn in
     replays _ (one-turn Starts Turns _ _ (l .inv .4) (l .inv .3, t .ensures .1))
 
 sub-left : tie.Need-sub-left Inv-loop μ-loop
@@ -49,8 +51,10 @@ loop-less c = search needs
 
 loop-again : tie.Need-loop-again Inv-loop μ-loop
 loop-again c =
-    let l = c .before .before .before .before .before .before .before .before .before .before .before .before .before .loop in
-    let t = c .before .before .before .before .before .before .turn in
+    let at-turn = c .before .before .before .before .before .before in
+    let at-loop = at-turn .before .before .before .before .before .before .before in
+    let l = at-loop .loop in
+    let t = at-turn .turn in
     (search needs, search needs, search needs, yes-of (t .result .more) (c .if1 .left), one-turn Starts Turns _ _ (l .inv .4) (l .inv .3, t .ensures .1))
 
 same-length-3 : tie.Need-same-length-3 Inv-loop μ-loop

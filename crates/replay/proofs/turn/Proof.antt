@@ -83,11 +83,12 @@ same-length-4 c = search needs
 
 returns-2 : tie.Need-returns-2
 returns-2 c =
-    let tested = c .before .before .before .before .before .before in
+    let at-shift = c .before .before in
+    let tested = at-shift .before .before .before .before in
     let call = tested .before .before .before in
     let st = call .before .before .before .before .before .before .before .before in
     let a = call .answer .ensures in
-    (search needs, answered (st .args .held) (st .args .input .now) _ (tested .if1 .left) (st .pre .0) (a .0 .0) (a .1 .0) (c .before .before .shift .ensures))
+    (search needs, answered (st .args .held) (st .args .input .now) _ (tested .if1 .left) (st .pre .0) (a .0 .0) (a .1 .0) (at-shift .shift .ensures))
 
 pub turn-spec : {M : Type 1} → statement M
 turn-spec =

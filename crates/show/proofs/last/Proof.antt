@@ -23,8 +23,9 @@ slice-reshare-prefix-write-all c = search needs
 
 slice-aggregate-write-all : tie.Need-slice-aggregate-write-all
 slice-aggregate-write-all c =
-    let a = c .before .before .before .rest in
-    let st = c .before .before .before .before .before .before .before in
+    let at-rest = c .before .before .before in
+    let st = at-rest .before .before .before .before in
+    let a = at-rest .rest in
     let k : length (a .last .1 .1 .0) ≡ length (st .args .output .now) = a .kept .1 .1 .0 in
     let p : 28457 ≤ length (st .args .output .now) = st .pre in
     let q : a .result ≤ 28457 = a .ensures .1 in
@@ -38,8 +39,10 @@ same-length c = search needs
 
 returns-2 : tie.Need-returns-2
 returns-2 c =
-    let a = c .before .before .before .before .rest in
-    a-rest (c .write-all .result) (c .before .before .before .before .before .before .if1 .left) (a .ensures .0) (a .ensures .2)
+    let at-rest = c .before .before .before .before in
+    let at-if1 = at-rest .before .before in
+    let a = at-rest .rest in
+    a-rest (c .write-all .result) (at-if1 .if1 .left) (a .ensures .0) (a .ensures .2)
 
 pub last-spec : {M : Type 1} → statement M
 last-spec =

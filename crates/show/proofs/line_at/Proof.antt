@@ -20,7 +20,10 @@ same-length : tie.Need-same-length
 same-length c = search needs
 
 returns : tie.Need-returns
-returns c = added (c .before .before .before .before .before .before .pre) (c .before .before .line .ensures)
+returns c =
+    let at-line = c .before .before in
+    let s = at-line .before .before .before .before in
+    added (s .pre) (at-line .line .ensures)
 
 pub line-at-spec : {M : Type 1} → statement M
 line-at-spec =

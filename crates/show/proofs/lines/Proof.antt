@@ -44,8 +44,10 @@ returns c =
 
 add-e : tie.Need-add-e Inv-loop μ-loop
 add-e c =
-    let l = c .before .before .before .before .loop in
-    let k = size-end (c .before .before .before .before .before .before .before .args .bytes .now) (l .taken) (c .before .size .ensures) (l .inv .0) in
+    let at-loop = c .before .before .before .before in
+    let s = at-loop .before .before .before in
+    let l = at-loop .loop in
+    let k = size-end (s .args .bytes .now) (l .taken) (c .before .size .ensures) (l .inv .0) in
     omega (arith, k)
 
 sub-line-at : tie.Need-sub-line-at Inv-loop μ-loop
@@ -56,18 +58,23 @@ part-line-at-start c = search needs
 
 part-line-at-end : tie.Need-part-line-at-end Inv-loop μ-loop
 part-line-at-end c =
-    let l = c .before .before .before .before .loop in
-    size-end (c .before .before .before .before .before .before .before .args .bytes .now) (l .taken) (c .before .size .ensures) (l .inv .0)
+    let at-loop = c .before .before .before .before in
+    let s = at-loop .before .before .before in
+    let l = at-loop .loop in
+    size-end (s .args .bytes .now) (l .taken) (c .before .size .ensures) (l .inv .0)
 
 line-at-requires : tie.Need-line-at-requires Inv-loop μ-loop
 line-at-requires c κs = search needs
 
 add-made : tie.Need-add-made Inv-loop μ-loop
 add-made c =
-    let l = c .before .before .before .before .before .before .before .before .before .loop in
-    let a = c .before .before .line-at in
+    let at-line-at = c .before .before in
+    let at-loop = at-line-at .before .before .before .before .before .before .before in
+    let s = at-loop .before .before .before in
+    let l = at-loop .loop in
+    let a = at-line-at .line-at in
     let k : l .made + a .result ≤ length (l .out) = a .ensures .fits in
-    let g = c .before .before .before .before .before .before .before .before .before .before .before .before .good .1 .1 .1 .0 in
+    let g = s .good .1 .1 .1 .0 in
     omega (arith, k, l .inv .2, g)
 
 sub-further : tie.Need-sub-further Inv-loop μ-loop
@@ -78,8 +85,11 @@ part-further-start c = search needs
 
 part-further-end : tie.Need-part-further-end Inv-loop μ-loop
 part-further-end c =
-    let l = c .before .before .before .before .before .before .before .before .before .loop in
-    size-end (c .before .before .before .before .before .before .before .before .before .before .before .before .args .bytes .now) (l .taken) (c .before .before .before .before .before .before .size .ensures) (l .inv .0)
+    let at-size = c .before .before .before .before .before .before in
+    let at-loop = at-size .before .before .before in
+    let s = at-loop .before .before .before in
+    let l = at-loop .loop in
+    size-end (s .args .bytes .now) (l .taken) (at-size .size .ensures) (l .inv .0)
 
 further-requires : tie.Need-further-requires Inv-loop μ-loop
 further-requires c κs = search needs
@@ -89,18 +99,27 @@ following-requires c κs = search needs
 
 loop-less : tie.Need-loop-less Inv-loop μ-loop
 loop-less c =
-    let l = c .before .before .before .before .before .before .before .before .before .before .before .before .loop in
-    let k = size-end (c .before .before .before .before .before .before .before .before .before .before .before .before .before .before .before .args .bytes .now) (l .taken) (c .before .before .before .before .before .before .before .before .before .size .ensures) (l .inv .0) in
-    let h = c .before .before .before .before .before .before .before .before .if1 .left in
+    let at-if1 = c .before .before .before .before .before .before .before .before in
+    let at-size = at-if1 .before in
+    let at-loop = at-size .before .before .before in
+    let s = at-loop .before .before .before in
+    let l = at-loop .loop in
+    let k = size-end (s .args .bytes .now) (l .taken) (at-size .size .ensures) (l .inv .0) in
+    let h = at-if1 .if1 .left in
     omega (arith, k, h)
 
 loop-again : tie.Need-loop-again Inv-loop μ-loop
 loop-again c =
-    let l = c .before .before .before .before .before .before .before .before .before .before .before .before .loop in
-    let n = c .before .before .before .before .before .before .before .before .before .size in
-    let k = size-end (c .before .before .before .before .before .before .before .before .before .before .before .before .before .before .before .args .bytes .now) (l .taken) (n .ensures) (l .inv .0) in
-    let h = c .before .before .before .before .before .before .before .before .if1 .left in
-    let a = c .before .before .before .before .before .line-at in
+    let at-line-at = c .before .before .before .before .before in
+    let at-if1 = at-line-at .before .before .before in
+    let at-size = at-if1 .before in
+    let at-loop = at-size .before .before .before in
+    let start = at-loop .before .before .before in
+    let l = at-loop .loop in
+    let n = at-size .size in
+    let k = size-end (start .args .bytes .now) (l .taken) (n .ensures) (l .inv .0) in
+    let h = at-if1 .if1 .left in
+    let a = at-line-at .line-at in
     let s = a .kept .1 .1 .1 .0 in
     let f = a .ensures .fits in
     (k, omega (arith, f, s), s ∙ l .inv .2, one-lined (l .taken) (l .made) (n .result) _ (omega (arith, h)) (size-at _ (l .taken) (n .ensures)) (c .following .ensures) (c .before .further .ensures) (l .inv .3) (a .ensures))

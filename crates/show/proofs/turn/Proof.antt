@@ -34,7 +34,8 @@ same-length-2 c = search needs
 
 returns : tie.Need-returns
 returns c =
-    let read = c .before .before .before .before .before .before in
+    let at-fed = c .before .before in
+    let read = at-fed .before .before .before .before in
     let tested = read .before .before in
     let call = tested .before .before .before in
     let known = call .before .before .before .before in
@@ -51,7 +52,7 @@ returns c =
     let z = no-size (take held input) output 28457 none (w .0) (omega (arith, e, p)) (a .ensures .1 .1) in
     let h = room-left held input (λ k. known .slice-known .given k .fits) (p .1 .0) (p .0) z in
     let f = read .read-on .ensures in
-    let t = c .before .before .fed .ensures in
+    let t = at-fed .fed .ensures in
     (rw (t .same .1) (f .within (p .0)), waited held input z h (w .1) f t)
 
 slice-reshare-prefix-write-all : tie.Need-slice-reshare-prefix-write-all
@@ -80,11 +81,12 @@ same-length-4 c = search needs
 
 returns-2 : tie.Need-returns-2
 returns-2 c =
-    let tested = c .before .before .before .before .before .before .before in
+    let at-shift = c .before .before in
+    let tested = at-shift .before .before .before .before .before in
     let call = tested .before .before .before in
     let st = call .before .before .before .before .before in
     let a = call .lines .ensures in
-    (search needs, lined (st .args .held) (st .args .input .now) _ (tested .if1 .left) (st .pre .0) (a .0 .0) (a .1 .0) (c .before .before .shift .ensures))
+    (search needs, lined (st .args .held) (st .args .input .now) _ (tested .if1 .left) (st .pre .0) (a .0 .0) (a .1 .0) (at-shift .shift .ensures))
 
 pub turn-spec : {M : Type 1} → statement M
 turn-spec =

@@ -43,13 +43,14 @@ same-length c = search needs
 
 returns-2 : tie.Need-returns-2
 returns-2 c =
-    let call = c .before .before .before .before .before .before in
+    let at-count = c .before .before in
+    let call = at-count .before .before .before .before in
     let tested = call .before .before .before in
     let st = tested .before .before in
     let held = st .args .held in
     let room = tested .if1 .left in
     let got = toZ w64 (ofZ w64 (call .read .result)) in
-    let n = c .before .before .count in
+    let n = at-count .count in
     record {
       within = λ _. search needs;
       grows = search needs;

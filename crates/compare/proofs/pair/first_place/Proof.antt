@@ -32,8 +32,10 @@ shared-slice-read-if1-2 c = omega arith
 
 returns : tie.Need-returns Inv-loop μ-loop
 returns c =
-    let l = c .before .before .before .before .loop in
-    let s = c .before .before .before .before .before .before .before .before .before .args in
+    let at-loop = c .before .before .before .before in
+    let start = at-loop .before .before .before .before .before in
+    let l = at-loop .loop in
+    let s = start .args in
     let z = place-stop (s .a .now) (s .b .now) (l .i) (omega arith) (omega arith) (c .if1 .taken) in
     omega (arith, l .inv .2, z)
 
@@ -45,15 +47,18 @@ loop-less c = omega arith
 
 loop-again : tie.Need-loop-again Inv-loop μ-loop
 loop-again c =
-    let l = c .before .before .before .before .loop in
-    let s = c .before .before .before .before .before .before .before .before .before .args in
+    let at-loop = c .before .before .before .before in
+    let start = at-loop .before .before .before .before .before in
+    let l = at-loop .loop in
+    let s = start .args in
     let t = place-on (s .a .now) (s .b .now) (l .i) (omega arith) (omega arith) (c .if1 .left) in
     (omega arith, l .inv .1, omega (arith, l .inv .2, t))
 
 returns-2 : tie.Need-returns-2 Inv-loop μ-loop
 returns-2 c =
+    let start = c .before .before .before .before .before .before in
     let l = c .before .loop in
-    let s = c .before .before .before .before .before .before .args in
+    let s = start .args in
     let z = place-end (s .a .now) (s .b .now) (l .i) (omega (arith, l .inv .1)) in
     omega (arith, l .inv .2, z)
 

@@ -40,10 +40,11 @@ same-length c = search needs
 
 returns-2 : tie.Need-returns-2
 returns-2 c =
-    let p = c .before .before .before .before .before .before .before .before in
+    let at-if2 = c .before .before .before .before .before in
+    let p = at-if2 .before .before .before in
     let a = p .before .before .before .before .before .before .before .args in
     let d = tested (a .a .now) (a .b .now) (p .before .before .before .first-place .ensures) (p .before .before .if1 .left) in
-    let z = c .before .before .before .before .before .if2 .taken in
+    let z = at-if2 .if2 .taken in
     roomier (omega arith) (retold (sym (pair-second (a .number) (a .a .now) (a .b .now) d z)) (p .put-u64 .ensures then c .before .before .put .ensures))
 
 slice-aggregate-put-2 : tie.Need-slice-aggregate-put-2
@@ -57,10 +58,11 @@ same-length-2 c = search needs
 
 returns-3 : tie.Need-returns-3
 returns-3 c =
-    let p = c .before .before .before .before .before .before .before .before .before in
+    let at-if3 = c .before .before .before .before .before in
+    let p = at-if3 .before .before .before .before in
     let a = p .before .before .before .before .before .before .before .args in
     let d = tested (a .a .now) (a .b .now) (p .before .before .before .first-place .ensures) (p .before .before .if1 .left) in
-    let z = c .before .before .before .before .before .if3 .taken in
+    let z = at-if3 .if3 .taken in
     roomier (omega arith) (retold (sym (pair-first (a .number) (a .a .now) (a .b .now) d z)) (p .put-u64 .ensures then c .before .before .put2 .ensures))
 
 slice-aggregate-put-3 : tie.Need-slice-aggregate-put-3
@@ -83,14 +85,15 @@ same-length-3 c = search needs
 
 returns-4 : tie.Need-returns-4
 returns-4 c =
-    let digits = c .before .before .before .before .before .before .before in
+    let at-put4 = c .before .before in
+    let digits = at-put4 .before .before .before .before .before in
     let words = digits .before .before .before .before in
     let p = words .before .before .before .before .before .before .before in
     let a = p .before .before .before .before .before .before .before .args in
     let e = p .before .before .before .first-place .ensures in
     let d = tested (a .a .now) (a .b .now) e (p .before .before .if1 .left) in
     retold (sym (pair-differ (a .number) (a .a .now) (a .b .now) d (words .before .before .before .before .if2 .left) (words .before .before .before .if3 .left)))
-    (p .put-u64 .ensures then words .put3 .ensures then retold (ap decimal e) (digits .put-u642 .ensures) then c .before .before .put4 .ensures)
+    (p .put-u64 .ensures then words .put3 .ensures then retold (ap decimal e) (digits .put-u642 .ensures) then at-put4 .put4 .ensures)
 
 pub put-line-spec : {M : Type 1} → statement M
 put-line-spec =

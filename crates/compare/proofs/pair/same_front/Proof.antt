@@ -36,9 +36,11 @@ loop-less c = search needs
 
 loop-again : tie.Need-loop-again Inv-loop μ-loop
 loop-again c =
+    let at-loop = c .before .before .before in
+    let start = at-loop .before .before .before in
     let e = c .before .same-eight in
-    let l = c .before .before .before .loop in
-    let s = c .before .before .before .before .before .before .args in
+    let l = at-loop .loop in
+    let s = start .args in
     let t = eight-on (s .a .now) (s .b .now) (l .k) (omega arith) (omega arith) (sym (e .ensures) ∙ not-false (e .result) (c .if1 .left)) in
     (omega arith, l .inv .1, l .inv .2, omega (arith, l .inv .3, t))
 

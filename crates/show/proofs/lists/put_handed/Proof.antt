@@ -47,9 +47,13 @@ same-length c = search needs
 
 returns-2 : tie.Need-returns-2
 returns-2 c =
-    let a = c .before .before .before .before .before .before .before .before .before .before .before .before .before .before .before .before .before .args in
-    let rest = retold (ap (λ (w : ℕ). flat (behindComma shownText) (readShown (a .st) (a .n - 1) (drop (a .from + w) (a .reply .now)))) (c .before .before .before .shown-width .ensures)) (c .before .before .put-more-shown .ensures) in
-    let all = c .before .before .before .before .before .before .before .before .before .before .before .put .ensures then c .before .before .before .before .before .before .before .put-shown .ensures then rest in
+    let at-shown-width = c .before .before .before in
+    let at-put-shown = at-shown-width .before .before .before .before in
+    let at-put = at-put-shown .before .before .before .before in
+    let s = at-put .before .before .before .before .before .before in
+    let a = s .args in
+    let rest = retold (ap (λ (w : ℕ). flat (behindComma shownText) (readShown (a .st) (a .n - 1) (drop (a .from + w) (a .reply .now)))) (at-shown-width .shown-width .ensures)) (c .before .before .put-more-shown .ensures) in
+    let all = at-put .put .ensures then at-put-shown .put-shown .ensures then rest in
     retold (sym (some-shown (a .st) (ascii " handed=") shownText (a .reply .now) (a .from) (a .n) (omega arith))) (roomier (omega arith) all)
 
 pub put-handed-spec : {M : Type 1} → statement M

@@ -18,8 +18,10 @@ same-length c = search needs
 
 returns : tie.Need-returns
 returns c =
-    let a = c .before .before .before .before .before .before .before .args in
-    roomier (omega arith) (retold (sym (missing-item (a .may-miss) (a .x) (c .before .before .before .before .before .if1 .taken))) (c .before .before .put .ensures))
+    let at-if1 = c .before .before .before .before .before in
+    let s = at-if1 .before .before in
+    let a = s .args in
+    roomier (omega arith) (retold (sym (missing-item (a .may-miss) (a .x) (at-if1 .if1 .taken))) (c .before .before .put .ensures))
 
 put-u32-requires : tie.Need-put-u32-requires
 put-u32-requires c κs = search needs
@@ -29,8 +31,10 @@ same-length-2 c = search needs
 
 returns-2 : tie.Need-returns-2
 returns-2 c =
-    let a = c .before .before .before .before .before .before .args in
-    retold (sym (plain-item (a .may-miss) (a .x) (c .before .before .before .before .if1 .left))) (c .before .before .put-u32 .ensures)
+    let at-if1 = c .before .before .before .before in
+    let s = at-if1 .before .before in
+    let a = s .args in
+    retold (sym (plain-item (a .may-miss) (a .x) (at-if1 .if1 .left))) (c .before .before .put-u32 .ensures)
 
 pub put-item-spec : {M : Type 1} → statement M
 put-item-spec =

@@ -38,9 +38,14 @@ same-length c = search needs
 
 returns-2 : tie.Need-returns-2
 returns-2 c =
-    let a = c .before .before .before .before .before .before .before .before .before .before .before .before .before .before .before .before .before .args in
-    let first = retold (ap (λ (x : ℕ). spelled (a .may-miss) x) (c .before .before .before .before .before .before .before .u32-at .ensures)) (c .before .before .before .before .before .before .put-item .ensures) in
-    let all = c .before .before .before .before .before .before .before .before .before .before .before .put .ensures then first then c .before .before .put-more .ensures in
+    let at-put-more = c .before .before in
+    let at-put-item = at-put-more .before .before .before .before in
+    let at-u32-at = at-put-item .before in
+    let at-put = at-u32-at .before .before .before .before in
+    let s = at-put .before .before .before .before .before .before in
+    let a = s .args in
+    let first = retold (ap (λ (x : ℕ). spelled (a .may-miss) x) (at-u32-at .u32-at .ensures)) (at-put-item .put-item .ensures) in
+    let all = at-put .put .ensures then first then at-put-more .put-more .ensures in
     retold (sym (some-words (a .name .now) (spelled (a .may-miss)) (a .reply .now) (a .from) (a .n) (omega arith))) (roomier (omega arith) all)
 
 pub put-list-spec : {M : Type 1} → statement M

@@ -44,10 +44,13 @@ loop-less c = search needs
 
 loop-again : tie.Need-loop-again Inv-loop μ-loop
 loop-again c =
-    let l = c .before .before .before .before .before .before .loop in
-    let a = c .before .before .before .before .before .before .before .before .before .args in
+    let at-u32-at = c .before .before .before .before in
+    let at-loop = at-u32-at .before .before in
+    let s = at-loop .before .before .before in
+    let l = at-loop .loop in
+    let a = s .args in
     let f = spelled (a .may-miss) in
-    let next = retold (ap (behindComma f) (c .before .before .before .before .u32-at .ensures)) (c .before .before .put-next .ensures) in
+    let next = retold (ap (behindComma f) (at-u32-at .u32-at .ensures)) (c .before .before .put-next .ensures) in
     let more = retold (sym (words-one (behindComma f) (a .reply .now) (a .from) (l .i))) (l .inv .5 then next) in
     (search needs, search needs, search needs, search needs, c .before .before .put-next .kept .0 ∙ l .inv .4, roomier (omega arith) more)
 

@@ -34,7 +34,9 @@ put-next-shown-requires : tie.Need-put-next-shown-requires Inv-loop μ-loop
 put-next-shown-requires c κs = search needs
 
 add-place : tie.Need-add-place Inv-loop μ-loop
-add-place c = omega (arith, c .before .before .before .before .before .before .shown-width .ensures)
+add-place c =
+    let at-shown-width = c .before .before .before .before .before .before in
+    omega (arith, at-shown-width .shown-width .ensures)
 
 add-i : tie.Need-add-i Inv-loop μ-loop
 add-i c = search needs
@@ -44,11 +46,14 @@ loop-less c = search needs
 
 loop-again : tie.Need-loop-again Inv-loop μ-loop
 loop-again c =
-    let l = c .before .before .before .before .before .loop in
-    let a = c .before .before .before .before .before .before .before .before .before .args in
+    let at-loop = c .before .before .before .before .before in
+    let at-shown-width = at-loop .before in
+    let s = at-shown-width .before .before .before in
+    let l = at-loop .loop in
+    let a = s .args in
     let one = retold (ap (λ (k : ℕ). behindComma shownText (shownAt (a .st) (a .reply .now) k)) (l .inv .6)) (c .before .before .put-next-shown .ensures) in
     let more = retold (sym (shown-one (a .st) (behindComma shownText) (a .reply .now) (a .from) (l .i))) (l .inv .5 then one) in
-    (search needs, search needs, search needs, search needs, c .before .before .put-next-shown .kept .0 ∙ l .inv .4, roomier (omega arith) more, omega (arith, l .inv .6, c .before .before .before .before .before .before .shown-width .ensures))
+    (search needs, search needs, search needs, search needs, c .before .before .put-next-shown .kept .0 ∙ l .inv .4, roomier (omega arith) more, omega (arith, l .inv .6, at-shown-width .shown-width .ensures))
 
 same-length : tie.Need-same-length Inv-loop μ-loop
 same-length c = search needs

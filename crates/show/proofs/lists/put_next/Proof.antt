@@ -17,7 +17,10 @@ same-length : tie.Need-same-length
 same-length c = search needs
 
 returns : tie.Need-returns
-returns c = c .before .before .before .before .before .before .put .ensures then c .before .before .put-item .ensures
+returns c =
+    let at-put-item = c .before .before in
+    let at-put = at-put-item .before .before .before .before in
+    at-put .put .ensures then at-put-item .put-item .ensures
 
 pub put-next-spec : {M : Type 1} → statement M
 put-next-spec =

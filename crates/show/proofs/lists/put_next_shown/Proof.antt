@@ -17,7 +17,10 @@ same-length : tie.Need-same-length
 same-length c = search needs
 
 returns : tie.Need-returns
-returns c = c .before .before .before .before .before .before .put .ensures then c .before .before .put-shown .ensures
+returns c =
+    let at-put-shown = c .before .before in
+    let at-put = at-put-shown .before .before .before .before in
+    at-put .put .ensures then at-put-shown .put-shown .ensures
 
 pub put-next-shown-spec : {M : Type 1} → statement M
 put-next-shown-spec =

@@ -52,10 +52,17 @@ same-length c = search needs
 returns : tie.Need-returns
 unfolding shownText
 returns c =
-    let serial = retold (ap decimal (c .before .before .before .before .before .before .before .before .before .before .before .before .before .before .before .before .before .before .before .before .before .before .before .u32-at .ensures)) (c .before .before .before .before .before .before .before .before .before .before .before .before .before .before .before .before .before .before .before .before .before .before .put-u32 .ensures) in
-    let surface = retold (ap decimal (c .before .before .before .before .before .before .before .before .before .before .before .before .before .u32-at2 .ensures)) (c .before .before .before .before .before .before .before .before .before .before .before .before .put-u322 .ensures) in
-    let poc = retold (ap (λ (x : ℕ). integer (toZ w32 x)) (c .before .before .before .u32-at3 .ensures)) (c .before .before .put-signed .ensures) in
-    serial then c .before .before .before .before .before .before .before .before .before .before .before .before .before .before .before .before .before .put .ensures then surface then c .before .before .before .before .before .before .before .put2 .ensures then poc
+    let at-u32-at3 = c .before .before .before in
+    let at-put2 = at-u32-at3 .before .before .before .before in
+    let at-put-u322 = at-put2 .before .before .before .before .before in
+    let at-u32-at2 = at-put-u322 .before in
+    let at-put = at-u32-at2 .before .before .before .before in
+    let at-put-u32 = at-put .before .before .before .before .before in
+    let at-u32-at = at-put-u32 .before in
+    let serial = retold (ap decimal (at-u32-at .u32-at .ensures)) (at-put-u32 .put-u32 .ensures) in
+    let surface = retold (ap decimal (at-u32-at2 .u32-at2 .ensures)) (at-put-u322 .put-u322 .ensures) in
+    let poc = retold (ap (λ (x : ℕ). integer (toZ w32 x)) (at-u32-at3 .u32-at3 .ensures)) (c .before .before .put-signed .ensures) in
+    serial then at-put .put .ensures then surface then at-put2 .put2 .ensures then poc
 
 pub put-shown-spec : {M : Type 1} → statement M
 put-shown-spec =

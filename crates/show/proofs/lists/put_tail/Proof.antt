@@ -69,13 +69,19 @@ same-length c = search needs
 
 returns : tie.Need-returns
 returns c =
-    let s = c .before .before .before .before .before .before .before .before .before .before .before .before .before .before .before .before .before .before .before .before in
+    let at-byte3 = c .before .before .before .before .before in
+    let at-put-list = at-byte3 .before .before .before in
+    let at-byte2 = at-put-list .before .before .before in
+    let at-behind-shown = at-byte2 .before in
+    let at-put-handed = at-behind-shown .before .before .before in
+    let at-byte = at-put-handed .before .before in
+    let s = at-byte .before .before .before in
     let a = s .args in
-    let b = c .before .before .before .before .before .before .before .before .before .before .before .before .behind-shown in
-    let h = c .before .before .before .before .before .before .before .before .before .before .before .before .before .before .before .before .before .byte in
-    let t = c .before .before .before .before .before .before .before .before .before .before .before .byte2 in
-    let r = c .before .before .before .before .before .byte3 in
-    let all = c .before .before .before .before .before .before .before .before .before .before .before .before .before .before .before .put-handed .ensures then c .before .before .before .before .before .before .before .before .put-list .ensures then c .before .before .put-list2 .ensures in
+    let b = at-behind-shown .behind-shown in
+    let h = at-byte .byte in
+    let t = at-byte2 .byte2 in
+    let r = at-byte3 .byte3 in
+    let all = at-put-handed .put-handed .ensures then at-put-list .put-list .ensures then c .before .before .put-list2 .ensures in
     let k = b .ensures .0 ∙ past-count shownWidth (a .reply .now) (a .from) (omega (arith, s .pre .0)) in
     let e : b .result ≡ a .from + 1 + shownWidth * h .result = omega (arith, k, h .ensures) in
     retold (sym (tail-behind (a .st) (a .reply .now) (a .from) (h .result) (b .result) (t .result) (r .result) e (h .ensures) (t .ensures) (r .ensures))) (roomier (omega arith) all)

@@ -28,7 +28,13 @@ same-length c = search needs
 
 returns : tie.Need-returns
 unfolding lineOf
-returns c = from-start (c .before .before .before .before .before .before .before .before .before .before .before .before .before .before .before .before .before .before .before .before .pre) (c .before .before .before .before .before .before .before .before .before .before .before .before .before .before .before .before .put-u64 .ensures then c .before .before .before .before .before .before .before .before .before .before .before .put .ensures then c .before .before .before .before .before .before .before .put-reply .ensures then c .before .before .put2 .ensures)
+returns c =
+    let at-put2 = c .before .before in
+    let at-put-reply = at-put2 .before .before .before .before .before in
+    let at-put = at-put-reply .before .before .before .before in
+    let at-put-u64 = at-put .before .before .before .before .before in
+    let s = at-put-u64 .before .before .before .before in
+    from-start (s .pre) (at-put-u64 .put-u64 .ensures then at-put .put .ensures then at-put-reply .put-reply .ensures then at-put2 .put2 .ensures)
 
 pub line-spec : {M : Type 1} → statement M
 line-spec =

@@ -33,9 +33,14 @@ same-length c = search needs
 
 returns : tie.Need-returns
 returns c =
-    let m = c .before .before .before .before .before .before .before .before .before .before .before .before .members in
-    let tail = retold (ap (λ (l : List ℕ). tailText (readTail (c .before .before .before .before .before .before .before .before .before .before .before .before .before .before .before .args .st) l)) (begun-tail (c .before .before .before .before .before .before .before .before .before .before .before .before .before .before .before .args .reply .now) (m .result) (m .ensures .0))) (c .before .before .put-tail .ensures) in
-    c .before .before .before .before .before .before .before .before .before .before .put-told .ensures then c .before .before .before .before .before .before .put-sets .ensures then tail
+    let at-put-tail = c .before .before in
+    let at-put-sets = at-put-tail .before .before .before .before in
+    let at-put-told = at-put-sets .before .before .before .before in
+    let at-members = at-put-told .before .before in
+    let s = at-members .before .before .before in
+    let m = at-members .members in
+    let tail = retold (ap (λ (l : List ℕ). tailText (readTail (s .args .st) l)) (begun-tail (s .args .reply .now) (m .result) (m .ensures .0))) (at-put-tail .put-tail .ensures) in
+    at-put-told .put-told .ensures then at-put-sets .put-sets .ensures then tail
 
 pub put-begun-spec : {M : Type 1} → statement M
 put-begun-spec =

@@ -37,8 +37,12 @@ same-length c = search needs
 returns : tie.Need-returns
 unfolding damagedText
 returns c =
-    let kind = retold (ap decimal (c .before .before .before .u16-at .ensures)) (c .before .before .put-u32 .ensures) in
-    c .before .before .before .before .before .before .before .before .before .before .before .before .before .before .before .before .put .ensures then c .before .before .before .before .before .before .before .before .before .before .before .before .put-u64 .ensures then c .before .before .before .before .before .before .before .put2 .ensures then kind
+    let at-u16-at = c .before .before .before in
+    let at-put2 = at-u16-at .before .before .before .before in
+    let at-put-u64 = at-put2 .before .before .before .before .before in
+    let at-put = at-put-u64 .before .before .before .before in
+    let kind = retold (ap decimal (at-u16-at .u16-at .ensures)) (c .before .before .put-u32 .ensures) in
+    at-put .put .ensures then at-put-u64 .put-u64 .ensures then at-put2 .put2 .ensures then kind
 
 pub put-damaged-spec : {M : Type 1} → statement M
 put-damaged-spec =

@@ -28,8 +28,12 @@ same-length c = search needs
 returns : tie.Need-returns
 unfolding doneText
 returns c =
-    let kind = retold (ap (λ (k : ℕ). kindWord (k - 256)) (c .before .before .before .before .before .before .before .u16-at .ensures)) (c .before .before .before .before .before .before .put-kind .ensures) in
-    c .before .before .before .before .before .before .before .before .before .before .before .put .ensures then kind then c .before .before .put-tail .ensures
+    let at-put-tail = c .before .before in
+    let at-put-kind = at-put-tail .before .before .before .before in
+    let at-u16-at = at-put-kind .before in
+    let at-put = at-u16-at .before .before .before .before in
+    let kind = retold (ap (λ (k : ℕ). kindWord (k - 256)) (at-u16-at .u16-at .ensures)) (at-put-kind .put-kind .ensures) in
+    at-put .put .ensures then kind then at-put-tail .put-tail .ensures
 
 pub put-done-spec : {M : Type 1} → statement M
 put-done-spec =

@@ -26,9 +26,14 @@ same-length c = search needs
 
 returns : tie.Need-returns
 returns c =
-    let n = c .before .before .before .before .before .before .before .before .before .before .before .before .args .flags in
-    let h = sym (c .before .before .before .before .before .before .before .before .before .before .spare4 .ensures) ∙ not-true _ (c .before .before .before .before .before .before .before .before .before .if1 .taken) in
-    roomier (omega arith) (retold (sym (spare-flags n (bit 0 n) (bit 1 n) (bit 2 n) (bit 3 n) h)) (c .before .before .before .before .before .before .put .ensures then c .before .before .put-u32 .ensures))
+    let at-put-u32 = c .before .before in
+    let at-put = at-put-u32 .before .before .before .before in
+    let at-if1 = at-put .before .before .before in
+    let at-spare4 = at-if1 .before in
+    let s = at-spare4 .before .before in
+    let n = s .args .flags in
+    let h = sym (at-spare4 .spare4 .ensures) ∙ not-true _ (at-if1 .if1 .taken) in
+    roomier (omega arith) (retold (sym (spare-flags n (bit 0 n) (bit 1 n) (bit 2 n) (bit 3 n) h)) (at-put .put .ensures then at-put-u32 .put-u32 .ensures))
 
 bit0-requires : tie.Need-bit0-requires
 bit0-requires c κs = search needs
@@ -71,12 +76,22 @@ same-length-2 c = search needs
 
 returns-2 : tie.Need-returns-2
 returns-2 c =
-    let first = c .before .before .before .before .before .before .before .before .before .before .before .before .before .before .before .before .before .before .before .before .before .before .bit0 in
-    let second = c .before .before .before .before .before .before .before .before .before .before .before .before .before .before .before .before .bit1 in
-    let third = c .before .before .before .before .before .before .before .before .before .before .bit2 in
-    let fourth = c .before .before .before .before .bit3 in
-    let h = sym (c .before .before .before .before .before .before .before .before .before .before .before .before .before .before .before .before .before .before .before .before .before .before .before .before .before .spare4 .ensures) ∙ not-false _ (c .before .before .before .before .before .before .before .before .before .before .before .before .before .before .before .before .before .before .before .before .before .before .before .before .if1 .left) in
-    retold (plain-flags (c .before .before .before .before .before .before .before .before .before .before .before .before .before .before .before .before .before .before .before .before .before .before .before .before .before .before .before .args .flags) (first .result) (second .result) (third .result) (fourth .result) h (first .ensures) (second .ensures) (third .ensures) (fourth .ensures)) (c .before .before .before .before .before .before .before .before .before .before .before .before .before .before .before .before .before .before .before .before .put-if .ensures then c .before .before .before .before .before .before .before .before .before .before .before .before .before .before .put-if2 .ensures then c .before .before .before .before .before .before .before .before .put-if3 .ensures then c .before .before .put-if4 .ensures)
+    let at-bit3 = c .before .before .before .before in
+    let at-put-if3 = at-bit3 .before .before .before .before in
+    let at-bit2 = at-put-if3 .before .before in
+    let at-put-if2 = at-bit2 .before .before .before .before in
+    let at-bit1 = at-put-if2 .before .before in
+    let at-put-if = at-bit1 .before .before .before .before in
+    let at-bit0 = at-put-if .before .before in
+    let at-if1 = at-bit0 .before .before in
+    let at-spare4 = at-if1 .before in
+    let s = at-spare4 .before .before in
+    let first = at-bit0 .bit0 in
+    let second = at-bit1 .bit1 in
+    let third = at-bit2 .bit2 in
+    let fourth = at-bit3 .bit3 in
+    let h = sym (at-spare4 .spare4 .ensures) ∙ not-false _ (at-if1 .if1 .left) in
+    retold (plain-flags (s .args .flags) (first .result) (second .result) (third .result) (fourth .result) h (first .ensures) (second .ensures) (third .ensures) (fourth .ensures)) (at-put-if .put-if .ensures then at-put-if2 .put-if2 .ensures then at-put-if3 .put-if3 .ensures then c .before .before .put-if4 .ensures)
 
 pub put-flags-spec : {M : Type 1} → statement M
 put-flags-spec =

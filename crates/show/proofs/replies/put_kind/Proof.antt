@@ -124,8 +124,10 @@ same-length-9 c = search needs
 
 returns-9 : tie.Need-returns-9
 returns-9 c =
-    let m = c .before .before .before .before .before .match .rest in
-    roomier (omega arith) (retold (sym (other-reply (c .before .before .before .before .before .before .before .args .kind) (m .0 .0 .0 .0 .0 .0 .0 .1) (m .0 .0 .0 .0 .0 .0 .1) (m .0 .0 .0 .0 .0 .1) (m .0 .0 .0 .0 .1) (m .0 .0 .0 .1) (m .0 .0 .1) (m .0 .1) (m .1))) (c .before .before .put9 .ensures))
+    let at-match = c .before .before .before .before .before in
+    let s = at-match .before .before in
+    let m = at-match .match .rest in
+    roomier (omega arith) (retold (sym (other-reply (s .args .kind) (m .0 .0 .0 .0 .0 .0 .0 .1) (m .0 .0 .0 .0 .0 .0 .1) (m .0 .0 .0 .0 .0 .1) (m .0 .0 .0 .0 .1) (m .0 .0 .0 .1) (m .0 .0 .1) (m .0 .1) (m .1))) (c .before .before .put9 .ensures))
 
 pub put-kind-spec : {M : Type 1} → statement M
 put-kind-spec =

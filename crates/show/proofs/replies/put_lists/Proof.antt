@@ -48,10 +48,16 @@ same-length c = search needs
 
 returns : tie.Need-returns
 returns c =
-    let x = c .before .before .before .before .before .before .before .before .before .before .before .before .before .before .before .before .byte in
-    let y = c .before .before .before .before .before .before .before .before .before .before .before .before .before .before .before .byte2 in
-    let all = c .before .before .before .before .before .before .before .before .before .before .before .before .put .ensures then c .before .before .before .before .before .before .before .put-list .ensures then c .before .before .put-list2 .ensures in
-    retold (sym (listed-at (c .before .before .before .before .before .before .before .before .before .before .before .before .before .before .before .before .before .before .before .args .reply .now) (x .result) (y .result) (x .ensures) (y .ensures))) (roomier (omega (arith, x .ok, y .ok)) all)
+    let at-put-list2 = c .before .before in
+    let at-put-list = at-put-list2 .before .before .before .before .before in
+    let at-put = at-put-list .before .before .before .before .before in
+    let at-byte2 = at-put .before .before .before in
+    let at-byte = at-byte2 .before in
+    let s = at-byte .before .before .before in
+    let x = at-byte .byte in
+    let y = at-byte2 .byte2 in
+    let all = at-put .put .ensures then at-put-list .put-list .ensures then at-put-list2 .put-list2 .ensures in
+    retold (sym (listed-at (s .args .reply .now) (x .result) (y .result) (x .ensures) (y .ensures))) (roomier (omega (arith, x .ok, y .ok)) all)
 
 pub put-lists-spec : {M : Type 1} → statement M
 put-lists-spec =

@@ -51,11 +51,17 @@ same-length c = search needs
 
 returns : tie.Need-returns
 returns c =
-    let s = c .before .before .before .before .before .before .before .before .before .before .before .before .short-members in
-    let x = c .before .before .before .before .before .before .before .before .before .before .before .byte in
-    let y = c .before .before .before .before .before .before .before .before .before .before .byte2 in
-    let all = c .before .before .before .before .before .before .before .put-list .ensures then c .before .before .put-list2 .ensures in
-    retold (sym (long-at (c .before .before .before .before .before .before .before .before .before .before .before .before .before .before .before .args .reply .now) (s .result) (x .result) (y .result) (s .ensures .0) (x .ensures) (y .ensures))) (roomier (omega (arith, x .ok, y .ok)) all)
+    let at-put-list2 = c .before .before in
+    let at-put-list = at-put-list2 .before .before .before .before .before in
+    let at-byte2 = at-put-list .before .before .before in
+    let at-byte = at-byte2 .before in
+    let at-short-members = at-byte .before in
+    let start = at-short-members .before .before .before in
+    let s = at-short-members .short-members in
+    let x = at-byte .byte in
+    let y = at-byte2 .byte2 in
+    let all = at-put-list .put-list .ensures then at-put-list2 .put-list2 .ensures in
+    retold (sym (long-at (start .args .reply .now) (s .result) (x .result) (y .result) (s .ensures .0) (x .ensures) (y .ensures))) (roomier (omega (arith, x .ok, y .ok)) all)
 
 pub put-long-spec : {M : Type 1} → statement M
 put-long-spec =

@@ -201,8 +201,10 @@ same-length-15 c = search needs
 
 returns-15 : tie.Need-returns-15
 returns-15 c =
-    let m = c .before .before .before .before .before .match .rest in
-    roomier (omega arith) (retold (sym (other-refusal (c .before .before .before .before .before .before .before .args .number) (m .0 .0 .0 .0 .0 .0 .0 .0 .0 .0 .0 .0 .0 .1) (m .0 .0 .0 .0 .0 .0 .0 .0 .0 .0 .0 .0 .1) (m .0 .0 .0 .0 .0 .0 .0 .0 .0 .0 .0 .1) (m .0 .0 .0 .0 .0 .0 .0 .0 .0 .0 .1) (m .0 .0 .0 .0 .0 .0 .0 .0 .0 .1) (m .0 .0 .0 .0 .0 .0 .0 .0 .1) (m .0 .0 .0 .0 .0 .0 .0 .1) (m .0 .0 .0 .0 .0 .0 .1) (m .0 .0 .0 .0 .0 .1) (m .0 .0 .0 .0 .1) (m .0 .0 .0 .1) (m .0 .0 .1) (m .0 .1) (m .1))) (c .before .before .put15 .ensures))
+    let at-match = c .before .before .before .before .before in
+    let s = at-match .before .before in
+    let m = at-match .match .rest in
+    roomier (omega arith) (retold (sym (other-refusal (s .args .number) (m .0 .0 .0 .0 .0 .0 .0 .0 .0 .0 .0 .0 .0 .1) (m .0 .0 .0 .0 .0 .0 .0 .0 .0 .0 .0 .0 .1) (m .0 .0 .0 .0 .0 .0 .0 .0 .0 .0 .0 .1) (m .0 .0 .0 .0 .0 .0 .0 .0 .0 .0 .1) (m .0 .0 .0 .0 .0 .0 .0 .0 .0 .1) (m .0 .0 .0 .0 .0 .0 .0 .0 .1) (m .0 .0 .0 .0 .0 .0 .0 .1) (m .0 .0 .0 .0 .0 .0 .1) (m .0 .0 .0 .0 .0 .1) (m .0 .0 .0 .0 .1) (m .0 .0 .0 .1) (m .0 .0 .1) (m .0 .1) (m .1))) (c .before .before .put15 .ensures))
 
 pub put-reason-spec : {M : Type 1} → statement M
 put-reason-spec =

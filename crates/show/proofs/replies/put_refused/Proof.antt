@@ -50,11 +50,19 @@ same-length c = search needs
 returns : tie.Need-returns
 unfolding refusedText
 returns c =
-    let n = c .before .before .before .before .before .before .before .before .before .before .before .before .before .before .before .before .before .before .before .before .before .before .before .before .before .before .before .before .u16-at .ensures in
-    let kind = retold (ap (λ (k : ℕ). kindWord (k - 256)) (c .before .before .before .before .before .before .before .before .before .before .before .before .before .before .before .before .before .before .before .before .before .u16-at2 .ensures)) (c .before .before .before .before .before .before .before .before .before .before .before .before .before .before .before .before .before .before .before .before .put-kind .ensures) in
-    let number = retold (ap decimal n) (c .before .before .before .before .before .before .before .before .before .before .before .put-u32 .ensures) in
-    let why = retold (ap refusalWord n) (c .before .before .put-reason .ensures) in
-    c .before .before .before .before .before .before .before .before .before .before .before .before .before .before .before .before .before .before .before .before .before .before .before .before .before .put .ensures then kind then c .before .before .before .before .before .before .before .before .before .before .before .before .before .before .before .put2 .ensures then number then c .before .before .before .before .before .before .put3 .ensures then why
+    let at-put-reason = c .before .before in
+    let at-put3 = at-put-reason .before .before .before .before in
+    let at-put-u32 = at-put3 .before .before .before .before .before in
+    let at-put2 = at-put-u32 .before .before .before .before in
+    let at-put-kind = at-put2 .before .before .before .before .before in
+    let at-u16-at2 = at-put-kind .before in
+    let at-put = at-u16-at2 .before .before .before .before in
+    let at-u16-at = at-put .before .before .before in
+    let n = at-u16-at .u16-at .ensures in
+    let kind = retold (ap (λ (k : ℕ). kindWord (k - 256)) (at-u16-at2 .u16-at2 .ensures)) (at-put-kind .put-kind .ensures) in
+    let number = retold (ap decimal n) (at-put-u32 .put-u32 .ensures) in
+    let why = retold (ap refusalWord n) (at-put-reason .put-reason .ensures) in
+    at-put .put .ensures then kind then at-put2 .put2 .ensures then number then at-put3 .put3 .ensures then why
 
 pub put-refused-spec : {M : Type 1} → statement M
 put-refused-spec =

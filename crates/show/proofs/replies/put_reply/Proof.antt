@@ -19,9 +19,11 @@ same-length c = search needs
 
 returns : tie.Need-returns
 returns c =
-    let R = c .before .before .before .before .before .before .before .before .args .reply .now in
-    let st = c .before .before .before .before .before .before .before .before .args .st in
-    roomier (omega arith) (retold (sym (said-damaged R st (sym (c .before .before .before .before .before .is-whole .ensures) ∙ not-true _ (c .before .before .before .before .if1 .taken)))) (c .before .before .put-damaged .ensures))
+    let at-is-whole = c .before .before .before .before .before in
+    let s = at-is-whole .before .before .before in
+    let R = s .args .reply .now in
+    let st = s .args .st in
+    roomier (omega arith) (retold (sym (said-damaged R st (sym (at-is-whole .is-whole .ensures) ∙ not-true _ (c .before .before .before .before .if1 .taken)))) (c .before .before .put-damaged .ensures))
 
 u16-at-requires : tie.Need-u16-at-requires
 u16-at-requires c κs = search needs
@@ -34,10 +36,14 @@ same-length-2 c = search needs
 
 returns-2 : tie.Need-returns-2
 returns-2 c =
-    let R = c .before .before .before .before .before .before .before .before .before .before .args .reply .now in
-    let st = c .before .before .before .before .before .before .before .before .before .before .args .st in
-    let w = sym (c .before .before .before .before .before .before .before .is-whole .ensures) ∙ not-false _ (c .before .before .before .before .before .before .if1 .left) in
-    let u = c .before .before .before .before .before .u16-at .ensures in
+    let at-u16-at = c .before .before .before .before .before in
+    let at-if1 = at-u16-at .before in
+    let at-is-whole = at-if1 .before in
+    let s = at-is-whole .before .before .before in
+    let R = s .args .reply .now in
+    let st = s .args .st in
+    let w = sym (at-is-whole .is-whole .ensures) ∙ not-false _ (at-if1 .if1 .left) in
+    let u = at-u16-at .u16-at .ensures in
     roomier (omega arith) (retold (sym (said-refused R st w (λ q. c .before .before .before .before .if2 .taken (u ∙ q)))) (c .before .before .put-refused .ensures))
 
 u16-at-requires-2 : tie.Need-u16-at-requires-2
@@ -51,11 +57,17 @@ same-length-3 c = search needs
 
 returns-3 : tie.Need-returns-3
 returns-3 c =
-    let R = c .before .before .before .before .before .before .before .before .before .before .before .before .args .reply .now in
-    let st = c .before .before .before .before .before .before .before .before .before .before .before .before .args .st in
-    let w = sym (c .before .before .before .before .before .before .before .before .before .is-whole .ensures) ∙ not-false _ (c .before .before .before .before .before .before .before .before .if1 .left) in
-    let z = sym (c .before .before .before .before .before .before .before .u16-at .ensures) ∙ c .before .before .before .before .before .before .if2 .left in
-    roomier (omega arith) (retold (sym (said-begun R st w z (sym (c .before .before .before .before .before .u16-at2 .ensures) ∙ c .before .before .before .before .if3 .taken))) (c .before .before .put-begun .ensures))
+    let at-u16-at2 = c .before .before .before .before .before in
+    let at-if2 = at-u16-at2 .before in
+    let at-u16-at = at-if2 .before in
+    let at-if1 = at-u16-at .before in
+    let at-is-whole = at-if1 .before in
+    let s = at-is-whole .before .before .before in
+    let R = s .args .reply .now in
+    let st = s .args .st in
+    let w = sym (at-is-whole .is-whole .ensures) ∙ not-false _ (at-if1 .if1 .left) in
+    let z = sym (at-u16-at .u16-at .ensures) ∙ at-if2 .if2 .left in
+    roomier (omega arith) (retold (sym (said-begun R st w z (sym (at-u16-at2 .u16-at2 .ensures) ∙ c .before .before .before .before .if3 .taken))) (c .before .before .put-begun .ensures))
 
 put-lists-requires : tie.Need-put-lists-requires
 put-lists-requires c κs = search needs
@@ -65,12 +77,19 @@ same-length-4 c = search needs
 
 returns-4 : tie.Need-returns-4
 returns-4 c =
-    let R = c .before .before .before .before .before .before .before .before .before .before .before .before .before .args .reply .now in
-    let st = c .before .before .before .before .before .before .before .before .before .before .before .before .before .args .st in
-    let w = sym (c .before .before .before .before .before .before .before .before .before .before .is-whole .ensures) ∙ not-false _ (c .before .before .before .before .before .before .before .before .before .if1 .left) in
-    let z = sym (c .before .before .before .before .before .before .before .before .u16-at .ensures) ∙ c .before .before .before .before .before .before .before .if2 .left in
-    let k = c .before .before .before .before .before .before .u16-at2 .ensures in
-    roomier (omega arith) (retold (sym (said-listed R st w z (λ q. c .before .before .before .before .before .if3 .left (k ∙ q)) (sym k ∙ c .before .before .before .before .if4 .taken))) (c .before .before .put-lists .ensures))
+    let at-if3 = c .before .before .before .before .before in
+    let at-u16-at2 = at-if3 .before in
+    let at-if2 = at-u16-at2 .before in
+    let at-u16-at = at-if2 .before in
+    let at-if1 = at-u16-at .before in
+    let at-is-whole = at-if1 .before in
+    let s = at-is-whole .before .before .before in
+    let R = s .args .reply .now in
+    let st = s .args .st in
+    let w = sym (at-is-whole .is-whole .ensures) ∙ not-false _ (at-if1 .if1 .left) in
+    let z = sym (at-u16-at .u16-at .ensures) ∙ at-if2 .if2 .left in
+    let k = at-u16-at2 .u16-at2 .ensures in
+    roomier (omega arith) (retold (sym (said-listed R st w z (λ q. at-if3 .if3 .left (k ∙ q)) (sym k ∙ c .before .before .before .before .if4 .taken))) (c .before .before .put-lists .ensures))
 
 put-done-requires : tie.Need-put-done-requires
 put-done-requires c κs = search needs
@@ -80,12 +99,19 @@ same-length-5 c = search needs
 
 returns-5 : tie.Need-returns-5
 returns-5 c =
-    let R = c .before .before .before .before .before .before .before .before .before .before .before .before .before .args .reply .now in
-    let st = c .before .before .before .before .before .before .before .before .before .before .before .before .before .args .st in
-    let w = sym (c .before .before .before .before .before .before .before .before .before .before .is-whole .ensures) ∙ not-false _ (c .before .before .before .before .before .before .before .before .before .if1 .left) in
-    let z = sym (c .before .before .before .before .before .before .before .before .u16-at .ensures) ∙ c .before .before .before .before .before .before .before .if2 .left in
-    let k = c .before .before .before .before .before .before .u16-at2 .ensures in
-    roomier (omega arith) (retold (sym (said-done R st w z (λ q. c .before .before .before .before .before .if3 .left (k ∙ q)) (λ q. c .before .before .before .before .if4 .left (k ∙ q)))) (c .before .before .put-done .ensures))
+    let at-if3 = c .before .before .before .before .before in
+    let at-u16-at2 = at-if3 .before in
+    let at-if2 = at-u16-at2 .before in
+    let at-u16-at = at-if2 .before in
+    let at-if1 = at-u16-at .before in
+    let at-is-whole = at-if1 .before in
+    let s = at-is-whole .before .before .before in
+    let R = s .args .reply .now in
+    let st = s .args .st in
+    let w = sym (at-is-whole .is-whole .ensures) ∙ not-false _ (at-if1 .if1 .left) in
+    let z = sym (at-u16-at .u16-at .ensures) ∙ at-if2 .if2 .left in
+    let k = at-u16-at2 .u16-at2 .ensures in
+    roomier (omega arith) (retold (sym (said-done R st w z (λ q. at-if3 .if3 .left (k ∙ q)) (λ q. c .before .before .before .before .if4 .left (k ∙ q)))) (c .before .before .put-done .ensures))
 
 pub put-reply-spec : {M : Type 1} → statement M
 put-reply-spec =

@@ -14,7 +14,10 @@ same-length : tie.Need-same-length
 same-length c = search needs
 
 returns : tie.Need-returns
-returns c = c .before .before .before .before .before .before .put-short .ensures then c .before .before .put-long .ensures
+returns c =
+    let at-put-long = c .before .before in
+    let at-put-short = at-put-long .before .before .before .before in
+    at-put-short .put-short .ensures then at-put-long .put-long .ensures
 
 pub put-sets-spec : {M : Type 1} → statement M
 put-sets-spec = tie.close (tie.spec put-short-requires put-long-requires same-length returns)

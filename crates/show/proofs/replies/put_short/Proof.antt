@@ -63,11 +63,18 @@ same-length c = search needs
 
 returns : tie.Need-returns
 returns c =
-    let x = c .before .before .before .before .before .before .before .before .before .before .before .before .before .before .before .before .before .byte in
-    let y = c .before .before .before .before .before .before .before .before .before .before .before .before .before .before .before .before .byte2 in
-    let z = c .before .before .before .before .before .before .before .before .before .before .before .before .before .before .before .byte3 in
-    let all = c .before .before .before .before .before .before .before .before .before .before .before .before .put-list .ensures then c .before .before .before .before .before .before .before .put-list2 .ensures then c .before .before .put-list3 .ensures in
-    retold (sym (short-at (c .before .before .before .before .before .before .before .before .before .before .before .before .before .before .before .before .before .before .before .before .args .reply .now) (x .result) (y .result) (z .result) (x .ensures) (y .ensures) (z .ensures))) (roomier (omega (arith, x .ok, y .ok, z .ok)) all)
+    let at-put-list3 = c .before .before in
+    let at-put-list2 = at-put-list3 .before .before .before .before .before in
+    let at-put-list = at-put-list2 .before .before .before .before .before in
+    let at-byte3 = at-put-list .before .before .before in
+    let at-byte2 = at-byte3 .before in
+    let at-byte = at-byte2 .before in
+    let s = at-byte .before .before .before in
+    let x = at-byte .byte in
+    let y = at-byte2 .byte2 in
+    let z = at-byte3 .byte3 in
+    let all = at-put-list .put-list .ensures then at-put-list2 .put-list2 .ensures then at-put-list3 .put-list3 .ensures in
+    retold (sym (short-at (s .args .reply .now) (x .result) (y .result) (z .result) (x .ensures) (y .ensures) (z .ensures))) (roomier (omega (arith, x .ok, y .ok, z .ok)) all)
 
 pub put-short-spec : {M : Type 1} → statement M
 put-short-spec =

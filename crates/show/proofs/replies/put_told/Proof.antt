@@ -47,10 +47,18 @@ same-length c = search needs
 
 returns : tie.Need-returns
 returns c =
-    let poc = retold (ap (λ (x : ℕ). integer (toZ w32 x)) (c .before .before .before .before .before .before .before .before .before .before .before .before .before .before .before .before .before .before .u32-at .ensures)) (c .before .before .before .before .before .before .before .before .before .before .before .before .before .before .before .before .before .put-signed .ensures) in
-    let flags = retold (ap (λ (n : ℕ). flagsText n (bit 0 n) (bit 1 n) (bit 2 n) (bit 3 n)) (c .before .before .before .before .before .before .before .before .before .before .before .before .before .byte .ensures)) (c .before .before .before .before .before .before .before .before .before .before .before .before .put-flags .ensures) in
-    let serial = retold (ap decimal (c .before .before .before .u32-at2 .ensures)) (c .before .before .put-u32 .ensures) in
-    retold (sym (told-at (c .before .before .before .before .before .before .before .before .before .before .before .before .before .before .before .before .before .before .before .before .before .before .before .before .before .before .before .args .reply .now))) (c .before .before .before .before .before .before .before .before .before .before .before .before .before .before .before .before .before .before .before .before .before .before .put .ensures then poc then flags then c .before .before .before .before .before .before .before .put2 .ensures then serial)
+    let at-u32-at2 = c .before .before .before in
+    let at-put2 = at-u32-at2 .before .before .before .before in
+    let at-put-flags = at-put2 .before .before .before .before .before in
+    let at-byte = at-put-flags .before in
+    let at-put-signed = at-byte .before .before .before .before in
+    let at-u32-at = at-put-signed .before in
+    let at-put = at-u32-at .before .before .before .before in
+    let s = at-put .before .before .before .before .before in
+    let poc = retold (ap (λ (x : ℕ). integer (toZ w32 x)) (at-u32-at .u32-at .ensures)) (at-put-signed .put-signed .ensures) in
+    let flags = retold (ap (λ (n : ℕ). flagsText n (bit 0 n) (bit 1 n) (bit 2 n) (bit 3 n)) (at-byte .byte .ensures)) (at-put-flags .put-flags .ensures) in
+    let serial = retold (ap decimal (at-u32-at2 .u32-at2 .ensures)) (c .before .before .put-u32 .ensures) in
+    retold (sym (told-at (s .args .reply .now))) (at-put .put .ensures then poc then flags then at-put2 .put2 .ensures then serial)
 
 pub put-told-spec : {M : Type 1} → statement M
 put-told-spec =

@@ -29,7 +29,13 @@ same-length c = search needs
 
 returns : tie.Need-returns
 unfolding restOf
-returns c = from-start (c .before .before .before .before .before .before .before .before .before .before .before .before .before .before .before .before .before .before .before .pre) (roomier (omega arith) (c .before .before .before .before .before .before .before .before .before .before .before .before .before .before .before .before .put-u64 .ensures then c .before .before .before .before .before .before .before .before .before .before .before .put .ensures then c .before .before .before .before .before .before .before .put-u642 .ensures then c .before .before .put2 .ensures))
+returns c =
+    let at-put2 = c .before .before in
+    let at-put-u642 = at-put2 .before .before .before .before .before in
+    let at-put = at-put-u642 .before .before .before .before in
+    let at-put-u64 = at-put .before .before .before .before .before in
+    let s = at-put-u64 .before .before .before in
+    from-start (s .pre) (roomier (omega arith) (at-put-u64 .put-u64 .ensures then at-put .put .ensures then at-put-u642 .put-u642 .ensures then at-put2 .put2 .ensures))
 
 pub rest-spec : {M : Type 1} → statement M
 rest-spec =

@@ -32,8 +32,10 @@ same-length c = search needs
 
 returns : tie.Need-returns
 returns c =
-    let w = c .before .before .before .before .before .decimal in
-    let a = c .before .before .before .before .before .before .before .before .args in
+    let at-decimal = c .before .before .before .before .before in
+    let s = at-decimal .before .before .before in
+    let w = at-decimal .decimal in
+    let a = s .args in
     let p = c .before .before .put in
     let e : take (w .result) (w .last .1 .0) ≡ decimal (a .n) = decimal-is (a .n) (omega arith) (w .ensures .1 .0) (w .ensures .1 .1) in
     subst (λ (t : List ℕ). Wrote (a .d .now) (a .at) t (length t) (p .result) (p .last .0)) e (p .ensures)

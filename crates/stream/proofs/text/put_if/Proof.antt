@@ -15,8 +15,10 @@ same-length c = search needs
 
 returns : tie.Need-returns
 returns c =
-    let a = c .before .before .before .before .before .before .before .args in
-    retold (ap (λ (b : Bool). cond b (a .word .now) []) (sym (c .before .before .before .before .if1 .taken))) (c .before .before .put .ensures)
+    let at-if1 = c .before .before .before .before in
+    let s = at-if1 .before .before .before in
+    let a = s .args in
+    retold (ap (λ (b : Bool). cond b (a .word .now) []) (sym (at-if1 .if1 .taken))) (c .before .before .put .ensures)
 
 returns-2 : tie.Need-returns-2
 returns-2 c =

@@ -14,8 +14,10 @@ same-length c = search needs
 
 returns : tie.Need-returns
 returns c =
-    let a = c .before .before .before .before .before .before .args in
-    roomier (omega arith) (retold (sym (small-integer (a .x) (c .before .before .before .before .if1 .taken))) (c .before .before .put-u32 .ensures))
+    let at-if1 = c .before .before .before .before in
+    let s = at-if1 .before .before in
+    let a = s .args in
+    roomier (omega arith) (retold (sym (small-integer (a .x) (at-if1 .if1 .taken))) (c .before .before .put-u32 .ensures))
 
 slice-aggregate-put : tie.Need-slice-aggregate-put
 slice-aggregate-put c = search needs
@@ -37,10 +39,11 @@ same-length-2 c = search needs
 
 returns-2 : tie.Need-returns-2
 returns-2 c =
-    let sign = c .before .before .before .before .before .before in
+    let at-put-u322 = c .before .before in
+    let sign = at-put-u322 .before .before .before .before in
     let tested = sign .before .before .before in
     let a = tested .before .before .args in
-    retold (sym (large-integer (a .x) (tested .if1 .left))) (sign .put .ensures then c .before .before .put-u322 .ensures)
+    retold (sym (large-integer (a .x) (tested .if1 .left))) (sign .put .ensures then at-put-u322 .put-u322 .ensures)
 
 pub put-signed-spec : {M : Type 1} → statement M
 put-signed-spec =

@@ -47,7 +47,7 @@ event-part-requires c κs = tt
 returns : tie.Need-returns Inv-loop μ-loop
 returns c =
     let k = c .before .before .before .before in
-    let s = c .before .before .before .before .before .before .before in
+    let s = k .before .before .before in
     let n : c .before .event-part .result ≡ 0 → ⊥ = omega arith in
     let e = c .before .before .event-at .ensures in
     let q : eventPart (eventIn (c .before .before .event-at .result)) (view (k .loop .lines)) ≡ 0 → ⊥ = λ z. n (c .before .event-part .ensures ∙ z) in
@@ -57,10 +57,15 @@ after-requires : tie.Need-after-requires Inv-loop μ-loop
 after-requires c κs = tt
 
 add-place : tie.Need-add-place Inv-loop μ-loop
-add-place c = omega (arith, c .before .before .before .before .before .before .size .ensures, c .before .before .before .before .before .before .before .before .pre)
+add-place c =
+    let at-size = c .before .before .before .before .before .before in
+    let s = at-size .before .before in
+    omega (arith, at-size .size .ensures, s .pre)
 
 add-i : tie.Need-add-i Inv-loop μ-loop
-add-i c = omega (arith, c .before .before .before .before .before .before .before .before .pre)
+add-i c =
+    let s = c .before .before .before .before .before .before .before .before in
+    omega (arith, s .pre)
 
 loop-less : tie.Need-loop-less Inv-loop μ-loop
 loop-less c = omega arith
@@ -68,11 +73,12 @@ loop-less c = omega arith
 loop-again : tie.Need-loop-again Inv-loop μ-loop
 loop-again c =
     let k = c .before .before .before .before .before in
-    let s = c .before .before .before .before .before .before .before .before in
+    let at-size = k .before in
+    let s = at-size .before .before in
     let e = c .before .before .before .event-at .ensures in
     let z : c .before .before .event-part .result ≡ 0 = omega arith in
-    let g = run-again (s .args .st) (s .args .p) (now (s .args .reply)) (k .loop .place) (s .args .n) (k .loop .i) _ _ (k .loop .lines) (eventIn (c .before .before .before .event-at .result)) (c .before .before .before .before .before .before .size .result) (c .after .result) (c .before .before .before .before .before .before .size .ensures .0) e (sym (c .before .before .event-part .ensures) ∙ z) (omega arith) (c .after .ensures) (k .loop .inv .1 .1 .1 .0) (k .loop .inv .1 .1 .1 .1) in
-    (omega arith, (omega (arith, c .before .before .before .before .before .before .size .ensures .1), (is-good (c .after .ensures), g)))
+    let g = run-again (s .args .st) (s .args .p) (now (s .args .reply)) (k .loop .place) (s .args .n) (k .loop .i) _ _ (k .loop .lines) (eventIn (c .before .before .before .event-at .result)) (at-size .size .result) (c .after .result) (at-size .size .ensures .0) e (sym (c .before .before .event-part .ensures) ∙ z) (omega arith) (c .after .ensures) (k .loop .inv .1 .1 .1 .0) (k .loop .inv .1 .1 .1 .1) in
+    (omega arith, (omega (arith, at-size .size .ensures .1), (is-good (c .after .ensures), g)))
 
 returns-2 : tie.Need-returns-2 Inv-loop μ-loop
 returns-2 c =

@@ -25,8 +25,10 @@ behind-shown-requires c κs = search needs
 
 run-counted-requires-2 : tie.Need-run-counted-requires-2
 run-counted-requires-2 c κs =
-    let z : c .before .before .before .before .run-counted .result .part ≡ 0 = omega arith in
-    (is-good (c .before .before .before .before .run-counted .ensures .lines (sym (c .before .before .before .before .run-counted .ensures .part) ∙ z)), omega (arith, c .before .behind-shown .ensures .1, c .before .before .before .before .before .before .pre .1))
+    let at-run-counted = c .before .before .before .before in
+    let s = at-run-counted .before .before in
+    let z : at-run-counted .run-counted .result .part ≡ 0 = omega arith in
+    (is-good (at-run-counted .run-counted .ensures .lines (sym (at-run-counted .run-counted .ensures .part) ∙ z)), omega (arith, c .before .behind-shown .ensures .1, s .pre .1))
 
 returns-2 : tie.Need-returns-2
 returns-2 c =

@@ -62,14 +62,19 @@ returns r =
 
 add-e : tie.Need-add-e Inv-loop μ-loop
 add-e c =
-    let l = c .before .before .before .before .before .before .loop in
-    let k = size-end (c .before .before .before .before .before .before .before .before .before .args .records .now) (l .taken) (c .before .before .before .size .ensures) (l .inv .0) in
+    let at-size = c .before .before .before in
+    let at-loop = at-size .before .before .before in
+    let s = at-loop .before .before .before in
+    let l = at-loop .loop in
+    let k = size-end (s .args .records .now) (l .taken) (at-size .size .ensures) (l .inv .0) in
     omega (arith, k)
 
 add-f : tie.Need-add-f Inv-loop μ-loop
 add-f c =
-    let l = c .before .before .before .before .before .before .loop in
-    let k = size-end (c .before .before .before .before .before .before .before .before .before .args .replies .now) (l .answered) (c .before .size2 .ensures) (l .inv .1 .0) in
+    let at-loop = c .before .before .before .before .before .before in
+    let s = at-loop .before .before .before in
+    let l = at-loop .loop in
+    let k = size-end (s .args .replies .now) (l .answered) (c .before .size2 .ensures) (l .inv .1 .0) in
     omega (arith, k)
 
 sub-hear : tie.Need-sub-hear Inv-loop μ-loop
@@ -80,8 +85,11 @@ part-hear-start c = search needs
 
 part-hear-end : tie.Need-part-hear-end Inv-loop μ-loop
 part-hear-end c =
-    let l = c .before .before .before .before .before .before .loop in
-    size-end (c .before .before .before .before .before .before .before .before .before .args .records .now) (l .taken) (c .before .before .before .size .ensures) (l .inv .0)
+    let at-size = c .before .before .before in
+    let at-loop = at-size .before .before .before in
+    let s = at-loop .before .before .before in
+    let l = at-loop .loop in
+    size-end (s .args .records .now) (l .taken) (at-size .size .ensures) (l .inv .0)
 
 sub-hear-2 : tie.Need-sub-hear-2 Inv-loop μ-loop
 sub-hear-2 c = search needs
@@ -91,8 +99,11 @@ part-hear-start-2 c = search needs
 
 part-hear-end-2 : tie.Need-part-hear-end-2 Inv-loop μ-loop
 part-hear-end-2 c =
-    let l = c .before .before .before .before .before .before .before .loop in
-    size-end (c .before .before .before .before .before .before .before .before .before .before .args .replies .now) (l .answered) (c .before .before .size2 .ensures) (l .inv .1 .0)
+    let at-size2 = c .before .before in
+    let at-loop = at-size2 .before .before .before .before .before in
+    let s = at-loop .before .before .before in
+    let l = at-loop .loop in
+    size-end (s .args .replies .now) (l .answered) (at-size2 .size2 .ensures) (l .inv .1 .0)
 
 hear-requires : tie.Need-hear-requires Inv-loop μ-loop
 hear-requires c κs = search needs
@@ -117,26 +128,36 @@ returns-2 r =
 
 add-pairs : tie.Need-add-pairs Inv-loop μ-loop
 add-pairs c =
-    let l = c .before .before .before .before .before .before .before .before .before .before .before .loop in
-    omega (arith, l .inv .0, l .inv .1 .1 .0, c .before .before .before .before .before .before .before .before .before .before .before .before .before .before .good)
+    let at-loop = c .before .before .before .before .before .before .before .before .before .before .before in
+    let s = at-loop .before .before .before in
+    let l = at-loop .loop in
+    omega (arith, l .inv .0, l .inv .1 .1 .0, s .good)
 
 loop-less : tie.Need-loop-less Inv-loop μ-loop
 loop-less c =
-    let l = c .before .before .before .before .before .before .before .before .before .before .before .loop in
-    let s = c .before .before .before .before .before .before .before .before .before .before .before .before .before .before in
-    let k = neither (c .before .before .before .before .before .before .before .before .size .result) (c .before .before .before .before .before .before .size2 .result) (c .before .before .before .before .before .if1 .left) in
-    let e = size-end (s .args .records .now) (l .taken) (c .before .before .before .before .before .before .before .before .size .ensures) (l .inv .0) in
+    let at-if1 = c .before .before .before .before .before in
+    let at-size2 = at-if1 .before in
+    let at-size = at-size2 .before .before in
+    let at-loop = at-size .before .before .before in
+    let s = at-loop .before .before .before in
+    let l = at-loop .loop in
+    let k = neither (at-size .size .result) (at-size2 .size2 .result) (at-if1 .if1 .left) in
+    let e = size-end (s .args .records .now) (l .taken) (at-size .size .ensures) (l .inv .0) in
     omega (arith, k .0, e)
 
 loop-again : tie.Need-loop-again Inv-loop μ-loop
 loop-again c =
-    let l = c .before .before .before .before .before .before .before .before .before .before .before .loop in
-    let s = c .before .before .before .before .before .before .before .before .before .before .before .before .before .before in
-    let k = neither (c .before .before .before .before .before .before .before .before .size .result) (c .before .before .before .before .before .before .size2 .result) (c .before .before .before .before .before .if1 .left) in
+    let at-if1 = c .before .before .before .before .before in
+    let at-size2 = at-if1 .before in
+    let at-size = at-size2 .before .before in
+    let at-loop = at-size .before .before .before in
+    let s = at-loop .before .before .before in
+    let l = at-loop .loop in
+    let k = neither (at-size .size .result) (at-size2 .size2 .result) (at-if1 .if1 .left) in
     let z : c .before .before .hear .result .part ≡ 0 = omega (arith, c .before .if2 .left) in
-    let e = size-end (s .args .records .now) (l .taken) (c .before .before .before .before .before .before .before .before .size .ensures) (l .inv .0) in
-    let f = size-end (s .args .replies .now) (l .answered) (c .before .before .before .before .before .before .size2 .ensures) (l .inv .1 .0) in
-    (e, (f, (omega (arith, l .inv .1 .1 .0, k .0), heard-right (l .taken) (l .answered) (l .pairs) (c .before .before .before .before .before .before .before .before .size .result) (c .before .before .before .before .before .before .size2 .result) (k .0) (size-at (s .args .records .now) (l .taken) (c .before .before .before .before .before .before .before .before .size .ensures)) (k .1) (size-at (s .args .replies .now) (l .answered) (c .before .before .before .before .before .before .size2 .ensures)) (l .inv .1 .1 .1) (c .before .before .hear .result) (c .before .before .hear .ensures) z)))
+    let e = size-end (s .args .records .now) (l .taken) (at-size .size .ensures) (l .inv .0) in
+    let f = size-end (s .args .replies .now) (l .answered) (at-size2 .size2 .ensures) (l .inv .1 .0) in
+    (e, (f, (omega (arith, l .inv .1 .1 .0, k .0), heard-right (l .taken) (l .answered) (l .pairs) (at-size .size .result) (at-size2 .size2 .result) (k .0) (size-at (s .args .records .now) (l .taken) (at-size .size .ensures)) (k .1) (size-at (s .args .replies .now) (l .answered) (at-size2 .size2 .ensures)) (l .inv .1 .1 .1) (c .before .before .hear .result) (c .before .before .hear .ensures) z)))
 
 so-far-requires-3 : tie.Need-so-far-requires-3 Inv-loop μ-loop
 so-far-requires-3 c κs = search needs

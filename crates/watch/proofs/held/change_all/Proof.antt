@@ -40,7 +40,9 @@ push-requires : tie.Need-push-requires Inv-loop μ-loop
 push-requires c κs = (is-good (c .before .before .before .loop .inv .1 .1), omega (arith, c .before .before .before .before .before .used-places .ensures .1))
 
 add-i : tie.Need-add-i Inv-loop μ-loop
-add-i c = omega (arith, c .before .before .before .before .before .before .used-places .ensures .1)
+add-i c =
+    let at-used-places = c .before .before .before .before .before .before in
+    omega (arith, at-used-places .used-places .ensures .1)
 
 loop-less : tie.Need-loop-less Inv-loop μ-loop
 loop-less c = omega arith

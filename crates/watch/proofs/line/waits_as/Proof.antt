@@ -17,13 +17,14 @@ same-poc-requires c κs = search needs
 
 returns : tie.Need-returns
 returns c =
-    let s = c .before .before .before .before .before .before .before .before in
+    let at-is-named = c .before .before .before .before .before in
+    let s = at-is-named .before .before .before in
     let x = s .args .x .poc in
     let y = s .args .e .poc in
     let f : SFits w32 x = search needs in
     let g : SFits w32 y = search needs in
     let h = c .before .same-poc .ensures in
-    rw (c .before .before .before .before .before .is-named .ensures, c .before .before .before .before .lies-at .ensures, h, toZ-ofZ w32 x f, toZ-ofZ w32 y g)
+    rw (at-is-named .is-named .ensures, c .before .before .before .before .lies-at .ensures, h, toZ-ofZ w32 x f, toZ-ofZ w32 y g)
 
 pub waits-as-spec : {M : Type 1} → statement M
 waits-as-spec = tie.close (tie.spec is-named-requires lies-at-requires same-poc-requires returns)

@@ -27,9 +27,10 @@ byte-requires-3 c κs = search needs
 
 returns : tie.Need-returns
 returns c =
-    let s = c .before .before .before .before .before .before in
+    let at-behind-shown = c .before .before .before .before in
+    let s = at-behind-shown .before .before in
     let r = now (s .args .reply) in
-    rw (c .before .byte2 .ensures, c .before .before .bit3 .ensures, c .before .before .before .byte .ensures, c .byte3 .ensures, c .before .before .before .before .behind-shown .ensures .0 ∙ past-count shownWidth r (s .args .at) (omega arith))
+    rw (c .before .byte2 .ensures, c .before .before .bit3 .ensures, c .before .before .before .byte .ensures, c .byte3 .ensures, at-behind-shown .behind-shown .ensures .0 ∙ past-count shownWidth r (s .args .at) (omega arith))
     (clear-is (s .args .st) (view (s .args .left)) r (s .args .at) (s .args .left .len) (s .pre .0 .long))
 
 pub is-clear-spec : {M : Type 1} → statement M

@@ -26,10 +26,11 @@ byte-requires-3 c κs = search needs
 
 returns : tie.Need-returns
 returns c =
-    let s = c .before .before .before .before .before .before in
+    let at-behind-shown = c .before .before .before .before in
+    let s = at-behind-shown .before .before in
     let r = now (s .args .reply) in
     let b = c .before .before .before .behind in
-    let t = c .before .before .before .before .behind-shown in
+    let t = at-behind-shown .behind-shown in
     rw (c .before .before .byte .ensures, c .before .byte2 .ensures, c .byte3 .ensures, b .ensures .0 ∙ past-count wordWidth r (t .result) (omega arith), t .ensures .0 ∙ past-count shownWidth r (s .args .at) (omega arith)) (sym (quiet-tail (s .args .st) (s .args .at) r))
 
 pub is-quiet-spec : {M : Type 1} → statement M

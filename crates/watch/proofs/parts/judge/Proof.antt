@@ -28,7 +28,8 @@ started-requires c κs = search needs
 
 returns-2 : tie.Need-returns-2
 returns-2 c =
-    let a = c .before .before .before .before .before .before .before .args in
+    let s = c .before .before .before .before .before .before .before in
+    let a = s .args in
     let z : u16 (now (a .reply)) numberPlace ≡ 0 = omega arith in
     let k : kindOf (now (a .reply)) ≡ replyTo beginKind = omega arith in
     rw (read-started (a .b .reading) (now (a .reply)) z k) (c .started .ensures)
@@ -38,7 +39,8 @@ listed-requires c κs = search needs
 
 returns-3 : tie.Need-returns-3
 returns-3 c =
-    let a = c .before .before .before .before .before .before .before .before .args in
+    let s = c .before .before .before .before .before .before .before .before in
+    let a = s .args in
     let z : u16 (now (a .reply)) numberPlace ≡ 0 = omega arith in
     let k : kindOf (now (a .reply)) ≡ replyTo listsKind = omega arith in
     rw (read-listed (a .b .reading) (now (a .reply)) z k) (judged-listed (a .b) (now (a .msg)) _ _ _ (rw (lists-read (now (a .reply))) (c .listed .ensures)))
@@ -48,7 +50,8 @@ done-requires c κs = search needs
 
 returns-4 : tie.Need-returns-4
 returns-4 c =
-    let a = c .before .before .before .before .before .before .before .before .args in
+    let s = c .before .before .before .before .before .before .before .before in
+    let a = s .args in
     let z : u16 (now (a .reply)) numberPlace ≡ 0 = omega arith in
     let k : kindOf (now (a .reply)) ≡ replyTo beginKind → ⊥ = omega arith in
     let m : kindOf (now (a .reply)) ≡ replyTo listsKind → ⊥ = omega arith in

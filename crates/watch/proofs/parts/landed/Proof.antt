@@ -23,8 +23,10 @@ byte-requires c κs = search needs
 
 returns-2 : tie.Need-returns-2
 returns-2 c =
-    let a = c .before .before .before .before .before .before .before .before .args in
-    lands-9 (a .b) (a .kind) (now (a .reply)) (rw (c .before .before .before .before .is-idle .ensures) at (c .before .before .before .if1 .left)) (c .before .byte .result) (rw (c .before .before .behind-shown .ensures .0) at (c .before .byte .ensures)) (c .if2 .taken)
+    let at-is-idle = c .before .before .before .before in
+    let s = at-is-idle .before .before .before .before in
+    let a = s .args in
+    lands-9 (a .b) (a .kind) (now (a .reply)) (rw (at-is-idle .is-idle .ensures) at (c .before .before .before .if1 .left)) (c .before .byte .result) (rw (c .before .before .behind-shown .ensures .0) at (c .before .byte .ensures)) (c .if2 .taken)
 
 joined-requires : tie.Need-joined-requires
 joined-requires c κs = search needs
@@ -42,29 +44,35 @@ returns-3 c =
 
 returns-4 : tie.Need-returns-4
 returns-4 c =
-    let s = c .before .before .before .before .before .before in
+    let at-joined = c .before .before .before .before .before in
+    let s = at-joined .before in
     let a = s .before .before .before .before .before .before .before .before .args in
-    let g = rw (is-view (c .before .before .before .before .before .joined .ensures)) at (c .before .before .before .before .tail .ensures) in
+    let g = rw (is-view (at-joined .joined .ensures)) at (c .before .before .before .before .tail .ensures) in
     let z : c .before .before .before .before .tail .result .part ≡ 0 = omega (arith, c .before .before .if3 .left) in
     lands-15 (a .b) (a .kind) (now (a .reply)) (rw (s .before .before .before .before .is-idle .ensures) at (s .before .before .before .if1 .left)) (s .before .byte .result) (rw (s .before .before .behind-shown .ensures .0) at (s .before .byte .ensures)) (s .if2 .left) (c .before .before .before .before .tail .result) g z (c .if4 .taken)
 
 returns-5 : tie.Need-returns-5
 returns-5 c =
-    let s = c .before .before .before .before .before .before .before in
+    let at-tail = c .before .before .before .before .before in
+    let at-joined = at-tail .before in
+    let s = at-joined .before in
     let a = s .before .before .before .before .before .before .before .before .args in
-    let g = rw (is-view (c .before .before .before .before .before .before .joined .ensures)) at (c .before .before .before .before .before .tail .ensures) in
-    let z : c .before .before .before .before .before .tail .result .part ≡ 0 = omega (arith, c .before .before .before .if3 .left) in
-    let k : 16 < c .before .before .before .before .before .tail .result .lines .len = omega (arith, c .if5 .taken) in
-    lands-16 (a .b) (a .kind) (now (a .reply)) (rw (s .before .before .before .before .is-idle .ensures) at (s .before .before .before .if1 .left)) (s .before .byte .result) (rw (s .before .before .behind-shown .ensures .0) at (s .before .byte .ensures)) (s .if2 .left) (c .before .before .before .before .before .tail .result) g z (c .before .if4 .left) k
+    let g = rw (is-view (at-joined .joined .ensures)) at (at-tail .tail .ensures) in
+    let z : at-tail .tail .result .part ≡ 0 = omega (arith, c .before .before .before .if3 .left) in
+    let k : 16 < at-tail .tail .result .lines .len = omega (arith, c .if5 .taken) in
+    lands-16 (a .b) (a .kind) (now (a .reply)) (rw (s .before .before .before .before .is-idle .ensures) at (s .before .before .before .if1 .left)) (s .before .byte .result) (rw (s .before .before .behind-shown .ensures .0) at (s .before .byte .ensures)) (s .if2 .left) (at-tail .tail .result) g z (c .before .if4 .left) k
 
 returns-6 : tie.Need-returns-6
 returns-6 c =
-    let s = c .before .before .before .before .before .before .before .before in
+    let at-if3 = c .before .before .before .before in
+    let at-tail = at-if3 .before .before in
+    let at-joined = at-tail .before in
+    let s = at-joined .before in
     let a = s .before .before .before .before .before .before .before .before .args in
-    let g = rw (is-view (c .before .before .before .before .before .before .before .joined .ensures)) at (c .before .before .before .before .before .before .tail .ensures) in
-    let z : c .before .before .before .before .before .before .tail .result .part ≡ 0 = omega (arith, c .before .before .before .before .if3 .left) in
-    let k : c .before .before .before .before .before .before .tail .result .lines .len ≤ 16 = omega (arith, c .before .if5 .left) in
-    lands-0 (a .b) (a .kind) (now (a .reply)) (rw (s .before .before .before .before .is-idle .ensures) at (s .before .before .before .if1 .left)) (s .before .byte .result) (rw (s .before .before .behind-shown .ensures .0) at (s .before .byte .ensures)) (s .if2 .left) (c .before .before .before .before .before .before .tail .result) g z (c .before .before .if4 .left) k
+    let g = rw (is-view (at-joined .joined .ensures)) at (at-tail .tail .ensures) in
+    let z : at-tail .tail .result .part ≡ 0 = omega (arith, at-if3 .if3 .left) in
+    let k : at-tail .tail .result .lines .len ≤ 16 = omega (arith, c .before .if5 .left) in
+    lands-0 (a .b) (a .kind) (now (a .reply)) (rw (s .before .before .before .before .is-idle .ensures) at (s .before .before .before .if1 .left)) (s .before .byte .result) (rw (s .before .before .behind-shown .ensures .0) at (s .before .byte .ensures)) (s .if2 .left) (at-tail .tail .result) g z (c .before .before .if4 .left) k
 
 pub landed-spec : {M : Type 1} → statement M
 landed-spec =

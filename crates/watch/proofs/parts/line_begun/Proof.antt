@@ -26,9 +26,10 @@ bit1-requires c κs = search needs
 
 returns : tie.Need-returns
 returns c =
-    let s = c .before .before .before .before .before .before .before in
+    let at-u32-at = c .before .before .before .before in
+    let s = at-u32-at .before .before .before in
     let z : toZ w32 (ofZ w32 (c .before .before .i32-at .result)) ≡ c .before .before .i32-at .result = toZ-ofZ (record { sfits = c .before .before .i32-at .ok }) in
-    rw (line-read (now (s .args .msg)) (now (s .args .reply)), z, c .before .before .before .before .u32-at .ensures, c .before .before .before .u32-at2 .ensures, c .before .before .i32-at .ensures, c .bit1 .ensures, c .before .byte .ensures)
+    rw (line-read (now (s .args .msg)) (now (s .args .reply)), z, at-u32-at .u32-at .ensures, c .before .before .before .u32-at2 .ensures, c .before .before .i32-at .ensures, c .bit1 .ensures, c .before .byte .ensures)
 
 pub line-begun-spec : {M : Type 1} → statement M
 line-begun-spec =

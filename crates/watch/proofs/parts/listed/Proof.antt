@@ -35,15 +35,21 @@ names-known-requires c κs = search needs
 
 returns-2 : tie.Need-returns-2
 returns-2 c =
-    let a = c .before .before .before .before .before .before .before .before .before .args in
+    let at-if1 = c .before .before .before .before .before in
+    let at-is-idle = at-if1 .before in
+    let s = at-is-idle .before .before .before in
+    let a = s .args in
     let q = rw (is-view (c .before .before .joined .ensures), c .before .before .before .before .byte .ensures, c .before .before .before .byte2 .ensures) at (sym (c .before .names-known .ensures) ∙ c .if2 .taken) in
-    lists-0 (a .b) _ (sym (c .before .before .before .before .before .before .is-idle .ensures) ∙ c .before .before .before .before .before .if1 .left) (c .before .before .before .before .before .before .before .before .before .pre) q
+    lists-0 (a .b) _ (sym (at-is-idle .is-idle .ensures) ∙ at-if1 .if1 .left) (s .pre) q
 
 returns-3 : tie.Need-returns-3
 returns-3 c =
-    let a = c .before .before .before .before .before .before .before .before .before .args in
+    let at-if1 = c .before .before .before .before .before in
+    let at-is-idle = at-if1 .before in
+    let s = at-is-idle .before .before .before in
+    let a = s .args in
     let q = rw (is-view (c .before .before .joined .ensures), c .before .before .before .before .byte .ensures, c .before .before .before .byte2 .ensures) at (sym (c .before .names-known .ensures) ∙ c .if2 .left) in
-    lists-12 (a .b) _ (sym (c .before .before .before .before .before .before .is-idle .ensures) ∙ c .before .before .before .before .before .if1 .left) q
+    lists-12 (a .b) _ (sym (at-is-idle .is-idle .ensures) ∙ at-if1 .if1 .left) q
 
 pub listed-spec : {M : Type 1} → statement M
 listed-spec =

@@ -35,14 +35,16 @@ is-known-requires c κs = tt
 returns : tie.Need-returns Inv-loop μ-loop
 returns c =
     let k = c .before .before .before .before in
-    let s = c .before .before .before .before .before .before in
+    let s = k .before .before in
     let i = k .loop .i in
     let e : s .args .n - i ≡ suc (s .args .n - (i + 1)) = omega arith in
     let m = rw (c .before .before .u32-at .ensures) at (sym (c .before .is-known .ensures) ∙ flip _ (c .if1 .taken)) in
     sym (names-miss (view (s .args .l)) (s .args .n - (i + 1)) (s .args .at + 4 * i) (now (s .args .reply)) m) ∙ rw e at (k .loop .inv .1)
 
 add-i : tie.Need-add-i Inv-loop μ-loop
-add-i c = omega (arith, c .before .before .before .before .before .before .pre .0)
+add-i c =
+    let s = c .before .before .before .before .before .before in
+    omega (arith, s .pre .0)
 
 loop-less : tie.Need-loop-less Inv-loop μ-loop
 loop-less c = omega arith
@@ -50,7 +52,7 @@ loop-less c = omega arith
 loop-again : tie.Need-loop-again Inv-loop μ-loop
 loop-again c =
     let k = c .before .before .before .before in
-    let s = c .before .before .before .before .before .before in
+    let s = k .before .before in
     let i = k .loop .i in
     let e : s .args .n - i ≡ suc (s .args .n - (i + 1)) = omega arith in
     let f : s .args .at + 4 * (i + 1) ≡ s .args .at + 4 * i + 4 = omega arith in

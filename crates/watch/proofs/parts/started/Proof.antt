@@ -13,7 +13,9 @@ is-idle-requires : tie.Need-is-idle-requires
 is-idle-requires c κs = search needs
 
 returns : tie.Need-returns
-returns c = let a = c .before .before .before .before .before .before .args in begins-3 (a .b) (now (a .msg)) (now (a .reply)) (sym (c .before .is-idle .ensures) ∙ flip _ (c .if1 .taken))
+returns c =
+    let s = c .before .before .before .before .before .before in
+    let a = s .args in begins-3 (a .b) (now (a .msg)) (now (a .reply)) (sym (c .before .is-idle .ensures) ∙ flip _ (c .if1 .taken))
 
 line-begun-requires : tie.Need-line-begun-requires
 line-begun-requires c κs = search needs
@@ -23,20 +25,28 @@ cast-if2 c = search needs
 
 returns-2 : tie.Need-returns-2
 returns-2 c =
-    let a = c .before .before .before .before .before .before .before .before .before .before .before .args in
+    let at-if1 = c .before .before .before .before .before in
+    let at-is-idle = at-if1 .before in
+    let s = at-is-idle .before .before .before .before .before in
+    let a = s .args in
     let e = c .before .before .before .before .line-begun .result in
     let n : e .serial .0 ≡ a .b .begun → ⊥ = omega (arith, c .if2 .taken) in
-    begins-4 (a .b) (now (a .msg)) (now (a .reply)) (sym (c .before .before .before .before .before .before .is-idle .ensures) ∙ flop _ (c .before .before .before .before .before .if1 .left)) e (c .before .before .before .before .line-begun .ensures) n
+    begins-4 (a .b) (now (a .msg)) (now (a .reply)) (sym (at-is-idle .is-idle .ensures) ∙ flop _ (at-if1 .if1 .left)) e (c .before .before .before .before .line-begun .ensures) n
 
 has-any-requires : tie.Need-has-any-requires
 has-any-requires c κs = search needs
 
 returns-3 : tie.Need-returns-3
 returns-3 c =
-    let a = c .before .before .before .before .before .before .before .before .before .before .before .before .before .before .args in
-    let e = c .before .before .before .before .before .before .before .line-begun .result in
-    let s : e .serial .0 ≡ a .b .begun = omega (arith, c .before .before .before .if2 .left) in
-    begins-5 (a .b) (now (a .msg)) (now (a .reply)) (sym (c .before .before .before .before .before .before .before .before .before .is-idle .ensures) ∙ flop _ (c .before .before .before .before .before .before .before .before .if1 .left)) e (c .before .before .before .before .before .before .before .line-begun .ensures) s (sym (c .before .has-any .ensures) ∙ c .if3 .taken)
+    let at-if2 = c .before .before .before in
+    let at-line-begun = at-if2 .before .before .before .before in
+    let at-if1 = at-line-begun .before in
+    let at-is-idle = at-if1 .before in
+    let start = at-is-idle .before .before .before .before .before in
+    let a = start .args in
+    let e = at-line-begun .line-begun .result in
+    let s : e .serial .0 ≡ a .b .begun = omega (arith, at-if2 .if2 .left) in
+    begins-5 (a .b) (now (a .msg)) (now (a .reply)) (sym (at-is-idle .is-idle .ensures) ∙ flop _ (at-if1 .if1 .left)) e (at-line-begun .line-begun .ensures) s (sym (c .before .has-any .ensures) ∙ c .if3 .taken)
 
 members-requires : tie.Need-members-requires
 members-requires c κs = search needs
@@ -52,11 +62,17 @@ tail-requires c κs = search needs
 
 returns-4 : tie.Need-returns-4
 returns-4 c =
-    let a = c .before .before .before .before .before .before .before .before .before .before .before .before .before .before .before .before .before .before .args in
-    let e = c .before .before .before .before .before .before .before .before .before .before .before .line-begun .result in
-    let s : e .serial .0 ≡ a .b .begun = omega (arith, c .before .before .before .before .before .before .before .if2 .left) in
+    let at-has-any = c .before .before .before .before .before in
+    let at-if2 = at-has-any .before .before in
+    let at-line-begun = at-if2 .before .before .before .before in
+    let at-if1 = at-line-begun .before in
+    let at-is-idle = at-if1 .before in
+    let start = at-is-idle .before .before .before .before .before in
+    let a = start .args in
+    let e = at-line-begun .line-begun .result in
+    let s : e .serial .0 ≡ a .b .begun = omega (arith, at-if2 .if2 .left) in
     let z : c .before .before .tail .result .part ≡ 0 → ⊥ = omega (arith, c .if4 .taken) in
-    begins-tail (a .b) (now (a .msg)) (now (a .reply)) (sym (c .before .before .before .before .before .before .before .before .before .before .before .before .before .is-idle .ensures) ∙ flop _ (c .before .before .before .before .before .before .before .before .before .before .before .before .if1 .left)) e (c .before .before .before .before .before .before .before .before .before .before .before .line-begun .ensures) s (sym (c .before .before .before .before .before .has-any .ensures) ∙ c .before .before .before .before .if3 .left) (c .before .before .before .members .result) (c .before .before .before .members .ensures .0) (c .before .before .tail .result) (c .before .before .tail .ensures) z
+    begins-tail (a .b) (now (a .msg)) (now (a .reply)) (sym (at-is-idle .is-idle .ensures) ∙ flop _ (at-if1 .if1 .left)) e (at-line-begun .line-begun .ensures) s (sym (at-has-any .has-any .ensures) ∙ c .before .before .before .before .if3 .left) (c .before .before .before .members .result) (c .before .before .before .members .ensures .0) (c .before .before .tail .result) (c .before .before .tail .ensures) z
 
 left-part-requires : tie.Need-left-part-requires
 left-part-requires c κs =
@@ -66,22 +82,41 @@ left-part-requires c κs =
 
 returns-5 : tie.Need-returns-5
 returns-5 c =
-    let a = c .before .before .before .before .before .before .before .before .before .before .before .before .before .before .before .before .before .before .before .before .before .args in
-    let e = c .before .before .before .before .before .before .before .before .before .before .before .before .before .before .line-begun .result in
-    let s : e .serial .0 ≡ a .b .begun = omega (arith, c .before .before .before .before .before .before .before .before .before .before .if2 .left) in
-    let z : c .before .before .before .before .before .tail .result .part ≡ 0 = omega (arith, c .before .before .before .if4 .left) in
-    begins-left (a .b) (now (a .msg)) (now (a .reply)) (sym (c .before .before .before .before .before .before .before .before .before .before .before .before .before .before .before .before .is-idle .ensures) ∙ flop _ (c .before .before .before .before .before .before .before .before .before .before .before .before .before .before .before .if1 .left)) e (c .before .before .before .before .before .before .before .before .before .before .before .before .before .before .line-begun .ensures) s (sym (c .before .before .before .before .before .before .before .before .has-any .ensures) ∙ c .before .before .before .before .before .before .before .if3 .left) (c .before .before .before .before .before .before .members .result) (c .before .before .before .before .before .before .members .ensures .0) (c .before .before .before .before .before .tail .result) (c .before .before .before .before .before .tail .ensures) z (c .before .left-part .result) (c .before .left-part .ensures) (let k : c .before .left-part .result ≡ 0 → ⊥ = omega (arith, c .if5 .taken) in k)
+    let at-tail = c .before .before .before .before .before in
+    let at-members = at-tail .before in
+    let at-if3 = at-members .before in
+    let at-has-any = at-if3 .before in
+    let at-if2 = at-has-any .before .before in
+    let at-line-begun = at-if2 .before .before .before .before in
+    let at-if1 = at-line-begun .before in
+    let at-is-idle = at-if1 .before in
+    let start = at-is-idle .before .before .before .before .before in
+    let a = start .args in
+    let e = at-line-begun .line-begun .result in
+    let s : e .serial .0 ≡ a .b .begun = omega (arith, at-if2 .if2 .left) in
+    let z : at-tail .tail .result .part ≡ 0 = omega (arith, c .before .before .before .if4 .left) in
+    begins-left (a .b) (now (a .msg)) (now (a .reply)) (sym (at-is-idle .is-idle .ensures) ∙ flop _ (at-if1 .if1 .left)) e (at-line-begun .line-begun .ensures) s (sym (at-has-any .has-any .ensures) ∙ at-if3 .if3 .left) (at-members .members .result) (at-members .members .ensures .0) (at-tail .tail .result) (at-tail .tail .ensures) z (c .before .left-part .result) (c .before .left-part .ensures) (let k : c .before .left-part .result ≡ 0 → ⊥ = omega (arith, c .if5 .taken) in k)
 
 add-t18 : tie.Need-add-t18
 add-t18 c = search needs
 
 returns-6 : tie.Need-returns-6
 returns-6 c =
-    let a = c .before .before .before .before .before .before .before .before .before .before .before .before .before .before .before .before .before .before .before .before .before .before .before .args in
-    let e = c .before .before .before .before .before .before .before .before .before .before .before .before .before .before .before .before .line-begun .result in
-    let s : e .serial .0 ≡ a .b .begun = omega (arith, c .before .before .before .before .before .before .before .before .before .before .before .before .if2 .left) in
-    let z : c .before .before .before .before .before .before .before .tail .result .part ≡ 0 = omega (arith, c .before .before .before .before .before .if4 .left) in
-    begins-0 (a .b) (now (a .msg)) (now (a .reply)) (sym (c .before .before .before .before .before .before .before .before .before .before .before .before .before .before .before .before .before .before .is-idle .ensures) ∙ flop _ (c .before .before .before .before .before .before .before .before .before .before .before .before .before .before .before .before .before .if1 .left)) e (c .before .before .before .before .before .before .before .before .before .before .before .before .before .before .before .before .line-begun .ensures) s (sym (c .before .before .before .before .before .before .before .before .before .before .has-any .ensures) ∙ c .before .before .before .before .before .before .before .before .before .if3 .left) (c .before .before .before .before .before .before .before .before .members .result) (c .before .before .before .before .before .before .before .before .members .ensures .0) (c .before .before .before .before .before .before .before .tail .result) (c .before .before .before .before .before .before .before .tail .ensures) z (c .before .before .before .before .before .before .before .before .before .before .before .before .before .before .before .before .before .before .before .before .before .before .before .pre) (let k : c .before .before .before .left-part .result ≡ 0 = omega (arith, c .before .before .if5 .left) in sym (c .before .before .before .left-part .ensures) ∙ k)
+    let at-if4 = c .before .before .before .before .before in
+    let at-tail = at-if4 .before .before in
+    let at-members = at-tail .before in
+    let at-if3 = at-members .before in
+    let at-has-any = at-if3 .before in
+    let at-if2 = at-has-any .before .before in
+    let at-line-begun = at-if2 .before .before .before .before in
+    let at-if1 = at-line-begun .before in
+    let at-is-idle = at-if1 .before in
+    let start = at-is-idle .before .before .before .before .before in
+    let a = start .args in
+    let e = at-line-begun .line-begun .result in
+    let s : e .serial .0 ≡ a .b .begun = omega (arith, at-if2 .if2 .left) in
+    let z : at-tail .tail .result .part ≡ 0 = omega (arith, at-if4 .if4 .left) in
+    begins-0 (a .b) (now (a .msg)) (now (a .reply)) (sym (at-is-idle .is-idle .ensures) ∙ flop _ (at-if1 .if1 .left)) e (at-line-begun .line-begun .ensures) s (sym (at-has-any .has-any .ensures) ∙ at-if3 .if3 .left) (at-members .members .result) (at-members .members .ensures .0) (at-tail .tail .result) (at-tail .tail .ensures) z (start .pre) (let k : c .before .before .before .left-part .result ≡ 0 = omega (arith, c .before .before .if5 .left) in sym (c .before .before .before .left-part .ensures) ∙ k)
 
 pub started-spec : {M : Type 1} → statement M
 started-spec =

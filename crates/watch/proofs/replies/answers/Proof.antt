@@ -30,10 +30,11 @@ kind-answered-requires c κs = search needs
 
 returns-2 : tie.Need-returns-2
 returns-2 c =
-    let s = c .before .before .before .before .before .before in
+    let at-u16-at = c .before .before .before in
+    let s = at-u16-at .before .before .before in
     let a = now (s .args .reply) in
     let z : u16 a numberPlace ≡ 0 = omega arith in
-    λ st. rw (c .kind-answered .ensures, c .before .before .before .u16-at .ensures) (sym (heard-else st (now (s .args .msg)) a z))
+    λ st. rw (c .kind-answered .ensures, at-u16-at .u16-at .ensures) (sym (heard-else st (now (s .args .msg)) a z))
 
 pub answers-spec : {M : Type 1} → statement M
 answers-spec =

@@ -38,9 +38,11 @@ add-result c = search needs
 
 returns-2 : tie.Need-returns-2
 returns-2 c =
-    let a = now (c .before .before .before .before .before .before .args .reply) in
+    let at-u16-at = c .before .before .before in
+    let s = at-u16-at .before .before .before in
+    let a = now (s .args .reply) in
     let k : u16 a numberPlace ≡ 13 → ⊥ = omega arith in
-    rw (c .before .before .before .u16-at .ensures, c .u16-at3 .ensures) (simp (ne-eqb (u16 a numberPlace) 13 k))
+    rw (at-u16-at .u16-at .ensures, c .u16-at3 .ensures) (simp (ne-eqb (u16 a numberPlace) 13 k))
 
 pub refusal-answers-spec : {M : Type 1} → statement M
 refusal-answers-spec =
