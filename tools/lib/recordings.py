@@ -14,8 +14,8 @@ EXAMPLES, BROKEN, VECTORS, FROM_RUST = (FOLDER / name for name in ("examples", "
 
 
 class Recording:
-    def __init__(self, name, shows, where):
-        self.name, self.shows, self.where = name, shows, where
+    def __init__(self, name, where):
+        self.name, self.where = name, where
         self.said, self.answered = [], []
 
 
@@ -25,7 +25,7 @@ def take_line(found, line, where):
         name, colon, shows = line[len("recording "):].partition(":")
         if not re.fullmatch(r"[a-z0-9-]+", name) or not shows.strip() or name in [r.name for r in found]:
             raise records.Bad("a recording needs a new name and what it shows")
-        found.append(Recording(name, shows.strip(), where))
+        found.append(Recording(name, where))
     elif not found or line[:2].strip() not in (">", "<"):
         raise records.Bad("no recording, record or reply")
     elif (line[0] == ">") != (len(found[-1].said) == len(found[-1].answered)):

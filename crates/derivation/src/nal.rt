@@ -1,6 +1,6 @@
 // NAL types (Table 7-1), and the flags of a picture that its type decides (8.1.3, C.5.2.2, 8.3.1).
 ghost use mathlib.Core.Path.{_≡_};
-ghost use mathlib.Core.Bool.{true, false};
+ghost use mathlib.Core.Bool.{true};
 ghost use lib.Dec.{eqb};
 ghost use Rattle.paper.specs.Words.{anyB};
 ghost use Rattle.paper.specs.Nal.{irap, idr, taken, subLayerNonReference};

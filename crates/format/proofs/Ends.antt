@@ -2,7 +2,6 @@
 use Prim.Native.Nat.{ℕ, _+_, _*_, _<_, _≤_}
 use mathlib.Core.Path.{_≡_}
 use mathlib.Core.List.{List}
-use lib.Dec.{eqb}
 use native.Mathlib.Omega.{arith}
 use native.Mathlib.Nat.{le-refl, mul-le-mul}
 use borrow.Author.Tests.{ne-eqb, lt-ltb}

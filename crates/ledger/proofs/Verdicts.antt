@@ -2,11 +2,11 @@
 -- none, what is left decides.
 use Prim.Native.Nat.{ℕ, _+_, min}
 use mathlib.Core.Path.{_≡_, sym, ap, ap₂, _∙_}
-use mathlib.Core.List.{List, _++_, append-assoc}
+use mathlib.Core.List.{List, _++_}
 use mathlib.Core.Bool.{true}
 use native.Mathlib.Omega.{arith}
 use lib.Dec.{ltb}
-use lib.ListN.{length, take, drop, length-append, length-take, take-append-drop}
+use lib.ListN.{length, take, length-append}
 use lib.Seq.{take-at, take-append-le}
 use borrow.Author.Tests.{eq-eqb, ne-eqb, lt-ltb, le-ltb, ltb-true, ltb-false}
 use Rattle.paper.specs.Words.{allB, first}
@@ -15,13 +15,13 @@ use Rattle.paper.specs.Ledger.{blank}
 use Rattle.paper.specs.Watch.{Verdict, watched}
 use Rattle.paper.proofs.Bools.{split}
 use Rattle.format.specs.Cut.{Parts, joined, isWhole, cut, restOf}
-use Rattle.format.proofs.Cutting.{front-cut, cut-on}
+use Rattle.format.proofs.Cutting.{front-cut}
 use Rattle.watch.specs.Book.{noTally}
 use Rattle.watch.specs.Pairs.{tallyAll}
 use Rattle.watch.proofs.ExchangeLaws.{watched-even}
 use Rattle.watch.proofs.Blocks.{watched-within}
 use Rattle.watch.proofs.Far.{far-broken, far-last}
-use Rattle.ledger.specs.Verdict.{Answer, exchanged, lastPart, judgedOf, judged}
+use Rattle.ledger.specs.Verdict.{Answer, lastPart, judgedOf, judged}
 
 ltb-shift : (n x y : ℕ) → ltb (n + x) (n + y) ≡ ltb x y
 ltb-shift n x y =
@@ -66,22 +66,3 @@ module _ (said answers : List (List ℕ)) (e : length said ≡ length answers) (
 module _ (said answers : List (List ℕ)) (a : allB isWhole said ≡ true) (b : allB isWhole answers ≡ true) (x y : List ℕ) where
   pub judged-front : judged (joined said ++ x) (joined answers ++ y) ≡ judgedOf (said ++ cut x) (answers ++ cut y) (length (restOf y))
   judged-front = ap₂ (λ (p q : Parts). judgedOf (p .whole) (q .whole) (length (q .rest))) (front-cut said x a) (front-cut answers y b)
-
-broken-longer : (rs answers qs bs : List (List ℕ)) (rest last : ℕ) → (exchanged rs answers .part ≡ 0 → ⊥) → judgedOf (rs ++ qs) (answers ++ bs) rest ≡ judgedOf rs answers last
-broken-longer rs answers qs bs rest last w =
-    let s = take (length answers) rs in
-    let t = take (length rs) answers in
-    let x = drop (length answers) rs in
-    let y = drop (length rs) answers in
-    let e : length s ≡ length t = let a = length-take (length answers) rs in let b = length-take (length rs) answers in omega arith in
-    let p : s ++ x ≡ rs = take-append-drop (length answers) rs in
-    let q : t ++ y ≡ answers = take-append-drop (length rs) answers in
-    let f : judgedOf (rs ++ qs) (answers ++ bs) rest ≡ judgedOf (s ++ (x ++ qs)) (t ++ (y ++ bs)) rest =
-    ap₂ (λ (l m : List (List ℕ)). judgedOf l m rest) (ap (λ (l : List (List ℕ)). l ++ qs) (sym p) ∙ append-assoc s x qs) (ap (λ (l : List (List ℕ)). l ++ bs) (sym q) ∙ append-assoc t y bs) in
-    f ∙ broken-stands s t e (x ++ qs) (y ++ bs) rest w ∙ sym (broken-stands s t e x y last w) ∙ ap₂ (λ (l m : List (List ℕ)). judgedOf l m last) p q
-
--- A PART THAT A WHOLE EXCHANGE BREAKS IS THE ANSWER, HOWEVER MUCH LONGER THE FILES ARE
-pub still-broken : (records replies more others : List ℕ) → (exchanged (cut records) (cut replies) .part ≡ 0 → ⊥) → judged (records ++ more) (replies ++ others) ≡ judged records replies
-still-broken records replies more others w =
-    ap₂ (λ (p q : Parts). judgedOf (p .whole) (q .whole) (length (q .rest))) (cut-on records more) (cut-on replies others)
-    ∙ broken-longer (cut records) (cut replies) (cut (restOf records ++ more)) (cut (restOf replies ++ others)) (length (restOf (restOf replies ++ others))) (length (restOf replies)) w

@@ -6,7 +6,7 @@ use mathlib.Core.List.{List}
 use native.Mathlib.Omega.{arith}
 use lib.Dec.{eqb, leb}
 use lib.ListN.{length, getD, set, replicate}
-use lib.Seq.{getD-set-same, getD-set-other, ext-getD}
+use lib.Seq.{getD-set-same, getD-set-other}
 use borrow.Author.Tests.{eqb-true, eqb-false, leb-true, leb-false}
 use Rattle.paper.proofs.Bools.{split}
 use Rattle.paper.specs.declared.Picture.{Picture}
@@ -137,7 +137,3 @@ module _ {t t′ : List ℕ} (a : NormalForm t) (b : NormalForm t′) (e : store
       let q : 6 * (j / 6) + j % 6 ≡ j = omega arith in
       let g : j % 6 < 6 = omega arith in
       ap (word t) (sym q) ∙ field t (j / 6) (j % 6) g ∙ ap (λ (ws : List ℕ). getD ws (j % 6) 0) (same-words (j / 6) (omega arith)) ∙ sym (field t′ (j / 6) (j % 6) g) ∙ ap (word t′) q)
-
-  -- and, of 97 words each, are one
-  pub one-store : length t ≡ 97 → length t′ ≡ 97 → t ≡ t′
-  one-store x y = ext-getD 0 t t′ (x ∙ sym y) (λ j l. one-form j (omega (arith, x)))

@@ -4,7 +4,7 @@
 ghost use mathlib.Core.Path.{_≡_};
 ghost use mathlib.Core.Bool.{cond};
 ghost use mathlib.Core.List.{[], map};
-ghost use Prim.Native.Nat.{_*_, _+_, _^_, _≤_, _<_, min, max};
+ghost use Prim.Native.Nat.{_^_, _≤_, _<_, min, max};
 ghost use lib.Dec.{leb};
 ghost use lib.ListN.{length};
 ghost use Rattle.paper.specs.Words.{anyB};

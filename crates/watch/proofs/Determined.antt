@@ -1,7 +1,6 @@
--- What the contracts come to: the result of `hear` is determined whole, and its book is the paper's ledger.
+-- What the contracts come to: the result of `hear` is determined whole, and a book in normal form has every line of its ledger.
 use Prim.Native.Nat.{ℕ, min}
 use mathlib.Core.Path.{_≡_, refl, sym, ap, subst, subst₂, _∙_}
-use mathlib.Core.Bool.{true}
 use mathlib.Core.List.{List}
 use native.Mathlib.Omega.{arith}
 use lib.Dec.{eqb}
@@ -9,8 +8,7 @@ use borrow.Author.Tests.{eqb-true, eqb-false}
 use Rattle.derivation.specs.Pad.{used}
 use Rattle.derivation.proofs.Pad.{is-view}
 use Rattle.paper.specs.declared.Reading.{Reading}
-use Rattle.paper.specs.Reading.{opening}
-use Rattle.paper.specs.Ledger.{Ledger, blank}
+use Rattle.paper.specs.Ledger.{Ledger}
 use Rattle.paper.specs.Watch.{partOf}
 use Rattle.paper.proofs.Bools.{split}
 use Rattle.watch.specs.declared.Slot.{Slot}
@@ -18,7 +16,7 @@ use Rattle.watch.specs.declared.Slot.the-variants.{Idle, Is}
 use Rattle.watch.specs.declared.Tally.{Tally}
 use Rattle.watch.specs.declared.Book.{Book}
 use Rattle.watch.specs.declared.Heard.{Heard}
-use Rattle.watch.specs.Book.{view, clamped, currentIn, bookIn, HoldsBook, noTally}
+use Rattle.watch.specs.Book.{view, clamped, currentIn, bookIn, HoldsBook}
 use Rattle.watch.specs.Hears.{Hears}
 
 one-slot : (x y : Slot) → currentIn x ≡ currentIn y → x ≡ y
@@ -55,11 +53,3 @@ determined {b} {r} {a} {h} {k} x y =
 -- a book in normal form holds at most 16 lines, so nothing is cut off
 pub whole-view : {b : Book} {st : Reading} {L : Ledger} {t : Tally} → HoldsBook b st L t → view (clamped (b .held)) ≡ L .held
 whole-view {b} h = let e : min (b .held .len) 16 ≡ b .held .len = omega (arith, h .few) in ap (λ (n : ℕ). used n (b .held .items)) e ∙ is-view (h .held)
-
--- and is the ledger, where all was in order
-pub book-is : {b : Book} {st : Reading} {L : Ledger} {t : Tally} → HoldsBook b st L t → L .ok ≡ true → bookIn b ≡ L
-book-is h o = let p = whole-view h in λ i. record { held = p i; current = h .current i; begun = h .begun i; ok = sym o i }
-
--- a new book is the blank ledger
-pub new-is-blank : {b : Book} → HoldsBook b opening blank noTally → bookIn b ≡ blank
-new-is-blank h = book-is h refl

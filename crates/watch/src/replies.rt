@@ -8,7 +8,7 @@ use format::tail_place;
 use paper::Reading;
 ghost use mathlib.Core.Path.{_≡_};
 ghost use mathlib.Core.Bool.{cond};
-ghost use Prim.Native.Nat.{_+_, _-_, _<_, min};
+ghost use Prim.Native.Nat.{_+_, _-_, min};
 ghost use lib.Dec.{eqb};
 ghost use Rattle.paper.specs.Numbers.{u16};
 ghost use Rattle.paper.specs.Kinds.{replyOffset, replyTo, malformedReply, numberPlace};

@@ -1,5 +1,4 @@
 -- `past`: below every reply's end the sum does not overflow, and from there on the place stays.
-use mathlib.Core.Path.{_≡_}
 use native.Mathlib.Omega.{arith}
 use borrow.Author.Needs.{needs}
 use borrow.Author.Tests.{lt-ltb, le-ltb}

@@ -1,8 +1,8 @@
 -- `reply_end`: a refusal, a lists reply and a reply with a tail end each where the definition says; number and kind tell which it is.
 use denote.Ref.{now}
 use native.Mathlib.Omega.{arith}
-use mathlib.Core.Path.{_≡_, _∙_, sym, refl}
-use Rattle.paper.specs.Numbers.{u8, u16}
+use mathlib.Core.Path.{_≡_, sym}
+use Rattle.paper.specs.Numbers.{u16}
 use Rattle.paper.specs.Kinds.{listsKind, replyTo, numberPlace}
 use Rattle.paper.specs.Records.{kindOf}
 use Rattle.format.proofs.Ends.{end-refused, end-lists, end-tail}

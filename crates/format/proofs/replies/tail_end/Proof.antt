@@ -1,7 +1,7 @@
 -- Each of the three places is one that a reply can have, so each count is read.
 use denote.Ref.{now}
 use native.Mathlib.Omega.{arith}
-use mathlib.Core.Path.{_≡_, _∙_}
+use mathlib.Core.Path.{_∙_}
 use Rattle.paper.specs.Kinds.{wordWidth}
 use Rattle.paper.specs.Reading.{shownWidthIn}
 use Rattle.format.proofs.Ends.{past-count}

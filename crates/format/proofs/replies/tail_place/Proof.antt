@@ -1,8 +1,7 @@
 -- `tail_place`: a begun picture's tail stands behind its sets, any other's right behind the number.
 use denote.Ref.{now}
 use native.Mathlib.Omega.{arith}
-use mathlib.Core.Path.{_≡_, _∙_, sym, refl}
-use Rattle.paper.specs.Numbers.{u8, u16}
+use mathlib.Core.Path.{_≡_, sym}
 use Rattle.paper.specs.Kinds.{beginKind, replyTo}
 use Rattle.paper.specs.Records.{kindOf}
 use Rattle.format.proofs.Ends.{tail-begun, tail-other}

@@ -20,7 +20,6 @@ mark-where-requires-2 c κs = search needs
 
 returns : tie.Need-returns
 returns c =
-    let a = c .before .before .before .before .args in
     let f = c .before .before .before .find-members .ensures in
     let p = rw f at (c .before .before .mark-where .ensures) in
     let g = rw (p, f) at (c .before .find-members2 .ensures) in
