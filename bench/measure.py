@@ -3,7 +3,7 @@
 answer alike, and prints the tables.
 
 --keep FILE writes the figures to a file; bench/before.json has those of an earlier state, which stand in the column
-'before'. --into PAGE puts the tables between the two marks of a page. $TOOLCHAIN is the kit's toolchain and $EMULATOR
+'before'. --into PAGE puts the tables between the marks of a page. $TOOLCHAIN is the kit's toolchain and $EMULATOR
 the kit's emulator, empty where none is needed: run.sh sets both.
 """
 import json
@@ -20,24 +20,30 @@ OUT = ROOT / "target" / "bench"
 sys.path[:0] = [str(HERE), str(ROOT / "tools")]
 import check
 import streams
-from lib import model, records
+from lib import model, pool, records
 
 KINDS = {1: "configure", 2: "begin", 3: "lists", 4: "finish", 5: "drain"}
 ROWS = ["mean", "begin", "lists", "finish", "drain"]
 # name, program, the function that answers one record
 PROGRAMS = {
-    "ours": ("ours", "session::step"),
+    "ours": ("speed", "session::step"),
     "Rust": ("count-rust", "step"),
     "Rust, least": ("count-rust-least", "step"),
     "C++ g++ -O2": ("plain-gcc", "session_step"),
     "C++ clang -O3": ("plain-clang", "session_step"),
 }
 ANSWERING = ["ours", "C++ g++ -O2", "C++ clang -O3"]
+# through the pool: the program, the function that answers one record, and the display's, which is counted apart
+POOLED, POOL_STEP, RETURNS = "pooled", "pool::step", "pooled::returns"
+DISPLAY = "display"
+# the most surfaces that a pool has, and the least with which no begin finds none free if all is given back at once
+SURFACES = [64, 18]
 STREAMS = ["random-access", "low-delay"]
 PICTURES, DEPTH_PICTURES = 1000, 200
 DEPTHS = range(1, 17)
 LENGTHS = [1000, 10000, 100000]
 MARKS = ("<!-- counted by bench/run.sh -->", "<!-- end of the count -->")
+POOL_MARKS = ("<!-- the pool, counted by bench/run.sh -->", "<!-- end of the count of the pool -->")
 
 
 class Count:
@@ -55,10 +61,12 @@ class Count:
                 self.functions.append([fields[6], *map(int, fields[:6])])
 
 
-def counted(qemu, command, mark=None, memory=True, given=None):
-    """The environment is empty and the seed fixed: both can change what a program's start executes."""
+def counted(qemu, command, mark=None, memory=True, given=None, less=None):
+    """The environment is empty and the seed fixed: both can change what a program's start executes. `less` is a
+    function whose own instructions no call has."""
     out = OUT / "count.txt"
     plugin = f"{OUT}/icount.so,out={out}" + ",mem=1" * memory + (f",mark={mark}+round_end" if mark else "")
+    plugin += f",less={less}" if less else ""
     counting = [shutil.which(qemu), "-seed", "1", "-cpu", "qemu64", "-plugin", plugin, *command]
     with open(given or os.devnull, "rb") as source:
         subprocess.run(counting, env={}, stdin=source, stdout=subprocess.DEVNULL, check=True)
@@ -105,6 +113,21 @@ def check_replies(qemu, name, path, data):
                 sys.exit(f"measure.py: {program} hands out otherwise than model.py at {name}")
 
 
+def through_pool(surfaces, data):
+    """The replies through a pool, by the model, where each picture is given back as soon as it is handed out; and how
+    many were."""
+    lent, replies, returned = pool.made(surfaces), [], 0
+    for record in records.cut(data):
+        if not records.is_whole(record):
+            break
+        _, reply, _ = lent.step(record)
+        replies.append(reply)
+        for _, surface, _ in records.reply_of(reply).get("handed", []):
+            lent.give_back(surface)
+            returned += 1
+    return b"".join(replies), returned
+
+
 def present():
     return [name for name, (file, _) in PROGRAMS.items() if (OUT / file).exists()]
 
@@ -146,6 +169,28 @@ def of_depths(qemu):
         for program in present():
             file, mark = PROGRAMS[program]
             figures[str(depth)][program] = means(kinds_of(data), counted(qemu, [OUT / file, path, "1"], mark).calls)
+    return figures
+
+
+def of_pool(qemu):
+    """Each recording through a pool, by how many surfaces it has; and what the display executes for each picture: it
+    looks at every reply, and gives the picture back."""
+    figures = {}
+    for name in STREAMS:
+        path, data = stream_file(name, PICTURES)
+        figures[name] = {}
+        for surfaces in SURFACES:
+            made = OUT / "replies.bin"
+            command = [OUT / POOLED, path, "1", made, str(surfaces)]
+            subprocess.run([qemu, *command], check=True)
+            asked, returned = through_pool(surfaces, data)
+            if made.read_bytes() != asked:
+                sys.exit(f"measure.py: {name} through a pool of {surfaces} is answered otherwise than by pool.py")
+            count = counted(qemu, command, POOL_STEP, less=RETURNS)
+            rows = means(kinds_of(data), count.calls)
+            own = next(function for function in count.functions if function[0] == RETURNS)
+            rows[DISPLAY] = [round(total / returned, 1) for total in (own[1], own[3], own[4])]
+            figures[name][str(surfaces)] = rows
     return figures
 
 
@@ -258,6 +303,24 @@ def show_lengths(figures, before):
     return table(heads, rows)
 
 
+def show_pool(figures, streams):
+    most, *others = SURFACES
+    heads = ["session alone", f"pool of {most}", "more", "in 100", *[f"pool of {surfaces}" for surfaces in others]]
+    text = ""
+    for name in STREAMS:
+        rows = []
+        for row in [*ROWS, DISPLAY]:
+            pooled = [figures[name][str(surfaces)][row][0] for surfaces in SURFACES]
+            compared = ["", whole(pooled[0]), "", ""]
+            if row in ROWS:
+                alone = streams[name]["ours"][row][0]
+                more = pooled[0] - alone
+                compared = [whole(alone), whole(pooled[0]), whole(more), f"{100 * more / alone:.1f}"]
+            rows.append([row, *compared, *[whole(figure) for figure in pooled[1:]]])
+        text += table([name, *heads], rows)
+    return text
+
+
 def tables(figures, before):
     return "".join([
         f"Instructions a record (bytes read / written), {PICTURES:,} pictures:\n\n",
@@ -271,10 +334,15 @@ def tables(figures, before):
     ])
 
 
-def put_into(page, text):
+def pool_tables(figures):
+    says = "Instructions a record; the last row is what the display executes for each picture, which no other row has:"
+    return f"{says}\n\n" + show_pool(figures["pool"], figures["streams"])
+
+
+def put_into(page, marks, text):
     path = pathlib.Path(page)
-    head, first, rest = path.read_text().partition(MARKS[0])
-    _, last, tail = rest.partition(MARKS[1])
+    head, first, rest = path.read_text().partition(marks[0])
+    _, last, tail = rest.partition(marks[1])
     if not first or not last:
         sys.exit(f"measure.py: {page} has not both marks")
     path.write_text(f"{head}{first}\n{text.rstrip()}\n{last}{tail}")
@@ -288,15 +356,19 @@ def main(arguments):
     qemu = arguments[0]
     for program in ANSWERING:
         check.main([qemu, str(OUT / PROGRAMS[program][0])])
-    figures = {"streams": of_streams(qemu), "depths": of_depths(qemu), "lengths": of_lengths(qemu)}
+    check.main([qemu, str(OUT / POOLED)], lambda data: through_pool(SURFACES[0], data)[0])
+    figures = {
+        "streams": of_streams(qemu), "pool": of_pool(qemu), "depths": of_depths(qemu), "lengths": of_lengths(qemu),
+    }
     earlier = HERE / "before.json"
     before = json.loads(earlier.read_text()) if earlier.exists() else None
-    text = tables(figures, before)
-    print("\n" + text, end="")
+    text, of_the_pool = tables(figures, before), pool_tables(figures)
+    print("\n" + text + of_the_pool, end="")
     if "--keep" in words:
         pathlib.Path(words["--keep"]).write_text(json.dumps(figures) + "\n")
     if "--into" in words:
-        put_into(words["--into"], text)
+        put_into(words["--into"], MARKS, text)
+        put_into(words["--into"], POOL_MARKS, of_the_pool)
     return 0
 
 

@@ -1,6 +1,7 @@
 #!/bin/sh
-# run.sh: counts what `session::step`, the Rust of cros-codecs 0.0.6 and a plain C++ version execute for each record,
-# and prints the tables of docs/PERFORMANCE.md (README.md says what is needed). All it makes is below target/bench.
+# run.sh: counts what `session::step`, the Rust of cros-codecs 0.0.6, a plain C++ version and `pool::step` execute for
+# each record, and prints the tables of docs/PERFORMANCE.md (README.md says what is needed). All it makes is below
+# target/bench.
 # Words are handed on to measure.py.
 #   CXX_X86     a compiler driver that links static programs for x86-64 (x86_64-linux-gnu-gcc)
 #   CARGO_X86   a cargo that builds for x86-64 ($PERF_TOOLS/bin/cargo-x86 where PERF_TOOLS is set, else cargo)
@@ -40,26 +41,41 @@ plugin() {
   cc -O2 -Wall -fPIC -shared -fvisibility=hidden "$here/count/icount.c" -o "$out/icount.so"
 }
 
-# The proved library: the crates of this repository and the loop of speed/, in a repository of their own, since rt takes
-# no Rattle file outside a crate. What is proved already in target/ is not proved again.
+# loop CRATE FLAGS..: the loop of that folder beside this file as a proved library, and the driver over it.
+loop() {
+  crate=$1
+  shift
+  mkdir -p "$repo/crates/$crate/src"
+  cp "$here/$crate/lib.rt.txt" "$repo/crates/$crate/src/lib.rt"
+  for proof in "$here/$crate"/*.antt.txt; do
+    folder=$repo/crates/$crate/proofs/$(basename "$proof" .antt.txt)
+    mkdir -p "$folder"
+    cp "$proof" "$folder/Proof.antt"
+  done
+  logged "$crate" "$repo" rt staticlib "$crate"
+  "$cxx" -O2 -static -no-pie -fno-exceptions -fno-rtti "$@" \
+    "$here/driver.cpp" "$repo/target/staticlib/lib$crate.a" -o "$out/$crate"
+}
+
+# The proved libraries: the crates of this repository and the loops of speed/ and pooled/, in a repository of their own,
+# since rt takes no Rattle file outside a crate. What is proved already in target/ is not proved again. Each loop has a
+# library of its own: in one, `session::step_at` would have two callers, and the compiler would make other code of it.
 ours() {
   repo=$out/repo
-  mkdir -p "$repo/crates/speed/src" "$repo/crates/speed/proofs/rest" "$repo/target"
+  mkdir -p "$repo/crates" "$repo/target"
   grep -v '^replay:' "$root/crates.txt" >"$repo/crates.txt"
   for crate in $(cut -d: -f1 "$repo/crates.txt"); do ln -sfn "../../../../crates/$crate" "$repo/crates/$crate"; done
   echo 'speed: paper wire format derivation store session' >>"$repo/crates.txt"
-  cp "$here/speed/lib.rt.txt" "$repo/crates/speed/src/lib.rt"
-  cp "$here/speed/rest.antt.txt" "$repo/crates/speed/proofs/rest/Proof.antt"
+  echo 'pooled: paper wire format derivation store session pool' >>"$repo/crates.txt"
   stamps=$root/target/stamp
-  if [ -d "$stamps" ] && ! diff -rq -x speed -x replay "$stamps" "$repo/target/stamp" >/dev/null 2>&1; then
+  if [ -d "$stamps" ] && ! diff -rq -x speed -x pooled -x replay "$stamps" "$repo/target/stamp" >/dev/null 2>&1; then
     for made in rlib stamp inc log; do
       rm -rf "$repo/target/$made"
       if [ -d "$root/target/$made" ]; then cp -r "$root/target/$made" "$repo/target/"; fi
     done
   fi
-  logged staticlib "$repo" rt staticlib speed
-  "$cxx" -O2 -static -no-pie -fno-exceptions -fno-rtti \
-    "$here/driver.cpp" "$repo/target/staticlib/libspeed.a" -o "$out/ours"
+  loop speed
+  loop pooled -DPOOLED
 }
 
 # The plain version by g++ -O2, and by the kit's own clang as rattle calls it.

@@ -1,8 +1,8 @@
 #!/bin/sh
-# embed/test.sh: builds the archive, links it into the example monitor (C) and into the tests of the Rust crate, and
-# runs both for x86-64 on every recording of recordings/vectors and recordings/examples; on another processor through an
-# emulator. The status is 1 where anything differs. Where a compiler cannot be had it says 'skipped: REASON' and goes
-# on. What it needs and lacks it asks of apt-get, where it is root.
+# embed/test.sh: builds the archive, links it into the example monitor and the test of the pool (C) and into the tests
+# of the Rust crate, and runs them for x86-64 on every recording of recordings/vectors, recordings/examples and
+# recordings/pool; on another processor through an emulator. The status is 1 where anything differs. Where a compiler
+# cannot be had it says 'skipped: REASON' and goes on. What it needs and lacks it asks of apt-get, where it is root.
 set -eu
 root=$(cd "$(dirname "$0")/.." && pwd -P)
 cd "$root"
@@ -72,15 +72,20 @@ quietly rt staticlib embed
 archive=$root/target/staticlib
 
 # ---- C
+build() {
+  quietly "$cc" -std=c11 -O2 -Wall -Wextra -Werror -static -I embed "embed/$1.c" "$archive/libembed.a" -o "$work/$1"
+}
+
 if ! command -v "$cc" >/dev/null && [ "$cc" != cc ]; then
   install gcc-x86-64-linux-gnu libc6-dev-amd64-cross || true
 fi
 if command -v "$cc" >/dev/null; then
-  quietly "$cc" -std=c11 -O2 -Wall -Wextra -Werror -static -I embed \
-    embed/monitor.c "$archive/libembed.a" -o "$work/monitor"
+  build monitor
   ${emulator:+"$emulator"} "$work/monitor" "$work"/calls/*.calls
+  build test_pool
+  ${emulator:+"$emulator"} "$work/test_pool" "$work"/calls/*.pool
 else
-  echo "skipped: the monitor in C: no C compiler for x86-64"
+  echo "skipped: the programs in C: no C compiler for x86-64"
 fi
 
 # ---- Rust. On another processor Debian's emulator runs the tests: the kit's stops where Rust's start-up reads

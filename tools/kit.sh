@@ -20,5 +20,7 @@ start_by() {
   script=$1
   name=$2
   shift 2
+  # python does not start with a directory as standard input; a program that reads it finds it closed
+  [ ! -d /dev/stdin ] || exec <&-
   exec python3 -IS "$script" "$name" ${emulator:+"$emulator"} "$loader" --library-path "$toolchain/lib" "$@"
 }

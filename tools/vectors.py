@@ -39,10 +39,7 @@ def main(arguments):
         print(f"vectors.py: {bad}", file=sys.stderr)
         return 2
     checks = (faults, recordings.model_differences)
-    lines = [line for recording in found for check in checks for line in check(recording)]
-    count, end = sum(len(r.said) for r in found), "not as they should be" if lines else "the model agrees"
-    print("\n".join(lines + [f"{len(found)} recordings, {count} records: {end}"]))
-    return 1 if lines or not found else 0
+    return recordings.summary(found, checks, ("recordings", "records"))
 
 
 if __name__ == "__main__":

@@ -1,7 +1,7 @@
 /* A plugin for qemu-user that counts, exactly and with the same result at each run, the guest instructions that a
  * program executes, by function and by call, and the bytes that they read and write.
  *
- *   qemu-x86_64 -plugin ./icount.so,out=FILE[,mem=1][,mark=STEP+END] program args
+ *   qemu-x86_64 -plugin ./icount.so,out=FILE[,mem=1][,mark=STEP+END][,less=NAME] program args
  *
  * FILE gets lines of TAB-separated fields:
  *   total  INSNS REPEATS READ WRITTEN PAGES         PAGES of 4,096 bytes were read or written (mem=1)
@@ -9,7 +9,7 @@
  *                                                   COPIES calls of memcpy and its like from here executed COPYING
  *                                                   instructions
  *   call   INSNS READ WRITTEN                       from an entry of the function STEP to its next entry, or to that of
- *                                                   END; in order
+ *                                                   END; in order; without what the function NAME itself executes
  * INSNS counts a `rep movs` once however often it repeats, as a processor's counter does; REPEATS has the repeats.
  * CALLS is how often the lowest executed address of a function was executed. One thread only: the counters are not
  * atomic. */
@@ -23,17 +23,19 @@ QEMU_PLUGIN_EXPORT int qemu_plugin_version = QEMU_PLUGIN_VERSION;
 typedef struct rec {
     uint64_t pc, n, rd, wr, repx, last, copies, copying;
     int copier;          /* of memcpy, memmove, memset, or a jump to one */
+    int less;            /* of the function that calls are counted without */
     const char *sym;
     struct rec *next;
 } rec;
 
 typedef struct { uint64_t n, rd, wr; } counts;
+static counts without;
 
 #define BUCKETS 65536
 static rec *table[BUCKETS];
 static uint64_t clock_, repeats, rd, wr;          /* clock_: every execution, repeats too */
 static int want_mem;
-static char *outname, *step, *end;
+static char *outname, *step, *end, *less;
 
 static counts *calls, start;
 static size_t made, room;
@@ -48,11 +50,12 @@ static rec *find(uint64_t pc, const char *sym) {
     rec *r = calloc(1, sizeof *r);
     r->pc = pc; r->sym = sym && *sym ? strdup(sym) : "?"; r->last = ~0ull - 1; r->next = *b; *b = r;
     r->copier = !strcmp(r->sym, "?") || strstr(r->sym, "mem") == r->sym || strstr(r->sym, "__mem") == r->sym;
+    r->less = less && !strcmp(r->sym, less);
     return r;
 }
 
 static void on_mark(unsigned int v, void *u) {
-    counts now = { clock_ - repeats, rd, wr };
+    counts now = { clock_ - repeats - without.n, rd - without.rd, wr - without.wr };
     (void)v;
     if (open_) {
         if (made == room) calls = realloc(calls, (room = room ? room * 2 : 4096) * sizeof *calls);
@@ -81,7 +84,8 @@ static void on_mem(unsigned int v, qemu_plugin_meminfo_t i, uint64_t a, void *u)
     rec *r = u;
     uint64_t size = 1ull << qemu_plugin_mem_size_shift(i);
     (void)v;
-    if (qemu_plugin_mem_is_store(i)) r->wr += size, wr += size; else r->rd += size, rd += size;
+    if (qemu_plugin_mem_is_store(i)) r->wr += size, wr += size, without.wr += r->less * size;
+    else r->rd += size, rd += size, without.rd += r->less * size;
     if (a >> 12 != lastpage) touch(a >> 12);
 }
 
@@ -138,6 +142,7 @@ static void on_tb(qemu_plugin_id_t id, struct qemu_plugin_tb *tb) {
             qemu_plugin_register_vcpu_insn_exec_cb(in, on_rep, QEMU_PLUGIN_CB_NO_REGS, r);
         qemu_plugin_register_vcpu_insn_exec_inline(in, QEMU_PLUGIN_INLINE_ADD_U64, &r->n, 1);
         qemu_plugin_register_vcpu_insn_exec_inline(in, QEMU_PLUGIN_INLINE_ADD_U64, &clock_, 1);
+        if (r->less) qemu_plugin_register_vcpu_insn_exec_inline(in, QEMU_PLUGIN_INLINE_ADD_U64, &without.n, 1);
         if (want_mem)
             qemu_plugin_register_vcpu_mem_cb(in, on_mem, QEMU_PLUGIN_CB_NO_REGS, QEMU_PLUGIN_MEM_RW, r);
     }
@@ -184,6 +189,7 @@ QEMU_PLUGIN_EXPORT int qemu_plugin_install(qemu_plugin_id_t id, const qemu_info_
     for (int i = 0; i < argc; i++) {
         if (!strncmp(argv[i], "out=", 4)) outname = strdup(argv[i] + 4);
         else if (!strcmp(argv[i], "mem=1") || !strcmp(argv[i], "mem=on")) want_mem = 1;
+        else if (!strncmp(argv[i], "less=", 5)) less = strdup(argv[i] + 5);
         else if (!strncmp(argv[i], "mark=", 5)) {
             step = strdup(argv[i] + 5);
             end = strchr(step, '+');

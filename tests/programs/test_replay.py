@@ -18,14 +18,11 @@ from concurrent.futures import ThreadPoolExecutor
 
 sys.path.insert(0, str(pathlib.Path(__file__).resolve().parents[2] / "tools"))
 import failing
-from lib import model, records, recordings
+from lib import model, records, recordings, tried
+from lib.tried import Failed
 
 SEED = 20265
 SECONDS = 300
-
-
-class Failed(Exception):
-    """What is wrong."""
 
 
 def answered(command, data):
@@ -137,13 +134,7 @@ def main(command):
     if not command:
         print(__doc__, file=sys.stderr)
         return 2
-    for test in (stored, damaged, piecewise, pausing, shut, names_it):
-        try:
-            print(f"replay, {test.__name__}: {test(command)}")
-        except Failed as failed:
-            print(f"replay, {test.__name__}: FAILED: {failed}")
-            return 1
-    return 0
+    return tried.run("replay", (stored, damaged, piecewise, pausing, shut, names_it), command)
 
 
 if __name__ == "__main__":

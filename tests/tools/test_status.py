@@ -1,6 +1,7 @@
 #!/usr/bin/env python3
 """tools/lib/status.py passes on what a command writes, byte for byte and at once, and ends with 0, 1 or 2 by the rule
-of `compare`: nothing written, something, or an error. Status 1 at the first that is not so."""
+of `compare`: nothing written, something, or an error; and by that of `pool`, for which something written is no
+difference. Status 1 at the first that is not so."""
 import os
 import pathlib
 import signal
@@ -11,8 +12,8 @@ SCRIPT = pathlib.Path(__file__).resolve().parents[2] / "tools" / "lib" / "status
 UNWRITTEN = b"compare: standard output can't be written\n"
 
 
-def command(text):
-    return [sys.executable, "-IS", str(SCRIPT), "compare", "sh", "-c", text]
+def command(text, name="compare"):
+    return [sys.executable, "-IS", str(SCRIPT), name, "sh", "-c", text]
 
 
 def ended(words, **ends):
@@ -36,6 +37,9 @@ def plain():
     yield ended(command("head -c 30000000 /dev/zero")), (bytes(30000000), b"", 1)
     yield ended([*command("")[:4], "/no/such/program"]), (b"", b"/no/such/program: No such file or directory\n", 2)
     yield ended(command("cat"), input=b"of standard input"), (b"of standard input", b"", 1)
+    yield ended(command("cat", "pool"), input=b"of standard input"), (b"of standard input", b"", 0)
+    yield ended(command("true", "pool")), (b"", b"", 0)
+    yield ended(command("cat; echo bad >&2", "pool"), input=b"some"), (b"some", b"bad\n", 2)
 
 
 def refusing():

@@ -62,16 +62,37 @@ def shown(data, of_bytes, to_text):
     return to_text(of_bytes(data) or {"kind": "raw", "bytes": data})
 
 
-def differences(recording, answered):
+class Words:
+    """How a recording's messages are called and shown."""
+    said, answered = "record", "replies"
+
+    @staticmethod
+    def said_text(data):
+        return shown(data, records.record_of, records.record_text)
+
+    @staticmethod
+    def answered_text(data):
+        return shown(data, records.reply_of, records.reply_text)
+
+
+def differences(recording, answered, words=Words):
     """Where the replies that a recording asks for are not these, as lines of text."""
     for place, (said, asked) in enumerate(zip(recording.said, recording.answered), 1):
-        reply = answered[place - 1] if place <= len(answered) else b""
-        if reply != asked:
-            yield f"{recording.name}, record {place}: {shown(said, records.record_of, records.record_text)}"
-            yield f"  expected {shown(asked, records.reply_of, records.reply_text)}"
-            yield f"  answered {shown(reply, records.reply_of, records.reply_text)}"
+        found = answered[place - 1] if place <= len(answered) else b""
+        if found != asked:
+            yield f"{recording.name}, {words.said} {place}: {words.said_text(said)}"
+            yield f"  expected {words.answered_text(asked)}"
+            yield f"  answered {words.answered_text(found)}"
     if len(answered) > len(recording.said):
-        yield f"{recording.name}: {len(answered) - len(recording.said)} replies too many"
+        yield f"{recording.name}: {len(answered) - len(recording.said)} {words.answered} too many"
+
+
+def summary(found, checks, what):
+    """What the checks find in some recordings, and a last line with how many there are; and the status."""
+    lines = [line for recording in found for check in checks for line in check(recording)]
+    count, end = sum(len(r.said) for r in found), "not as they should be" if lines else "the model agrees"
+    print("\n".join(lines + [f"{len(found)} {what[0]}, {count} {what[1]}: {end}"]))
+    return 1 if lines or not found else 0
 
 
 def model_differences(recording):

@@ -15,6 +15,7 @@ import sys
 # by the first bytes on standard output: what a program that wrote no error ends with
 RULES = {
     "compare": lambda said: 1 if said else 0,
+    "pool": lambda said: 0,
 }
 BLOCK = 65536
 FIRST = 16

@@ -81,6 +81,23 @@ module _ {before after : List ℕ} {qs : List (List ℕ)} {f r : Feed} (t : Turn
         let w : waiting f before ++ brought f r after ≡ [] = ap₂ (λ (l m : List ℕ). l ++ m) (ap (λ (n : ℕ). take n before) z) (t .ended (k .0) .none) in
         none-cut (waiting f before ++ brought f r after) (waiting r after) qs (t .taken .0 y) w
 
+  -- one that gave fewer replies than the other, n and then p where the other gave m and then q, has ended and nothing of it waits
+  fewer-on : (n m p q : ℕ) → f .failed ≡ false → (n < m → (atEnd f ≡ true) × (f .held ≡ 0)) → (p < q → (f .ended ≡ true) × (r .held ≡ 0)) → n + p < m + q → (atEnd r ≡ true) × (r .held ≡ 0)
+  fewer-on n m p q x so-far now h =
+      split (ltb p q)
+      (λ u. let k = now (ltb-true p q u) in (still-seen (end-seen f (k .0) x) .1, k .1))
+      (λ u.
+      let l = ltb-false p q u in
+      let k = so-far (omega arith) in
+      (still-seen (k .0) .1, stays-none (k .0) (k .1)))
+
+-- a file in a turn before which no read had failed: it is not read on where a pair waits, and else nothing is taken
+file-turns : {f r : Feed} {before after : List ℕ} {qs : List (List ℕ)} (pair : Bool) → f .failed ≡ false → Onward f r after → (f .ended ≡ true → Unread f r after)
+    → Cuts (r .ended) (waiting f before ++ brought f r after) qs (waiting r after) → (pair ≡ true → Unread f r after)
+    → (pair ≡ false → (qs ≡ []) × (waiting f before ++ brought f r after ≡ waiting r after)) → Turns f before r after qs
+file-turns {r = r} pair x on ended cut none waits =
+    record { on = on; ended = ended; taken = (λ _. cut, λ h. split pair (λ e. not-both (r .failed) h (none e .failed ∙ x)) waits) }
+
 -- ---- how many replies there are
 
 -- so many so far and so many more: a file that is behind gives no more
@@ -96,36 +113,6 @@ summed x y p q f g =
 
 -- ---- one turn more
 
--- each of the two files in a turn, where no read had failed before it
-module _ {s r : State} {first second output first′ second′ output′ : List ℕ} (t : Turned s first second output r first′ second′ output′) (x : s .first .failed ≡ false) (y : s .second .failed ≡ false) where
-  first-turns : Turns (s .first) first (r .first) first′ (t .firsts)
-  first-turns =
-      record {
-        on = t .first-on;
-        ended = t .ended-first;
-        taken = (
-          λ _. t .cut-first,
-          λ h.
-              split (pairWaits s first second)
-              (λ e. not-both (r .first .failed) h (t .compares e .1 .failed ∙ x))
-              (λ e. (t .reads e .0, t .waits e .0)),
-        );
-      }
-
-  second-turns : Turns (s .second) second (r .second) second′ (t .seconds)
-  second-turns =
-      record {
-        on = t .second-on;
-        ended = t .ended-second;
-        taken = (
-          λ _. t .cut-second,
-          λ h.
-              split (pairWaits s first second)
-              (λ e. not-both (r .second .failed) h (t .compares e .2 .failed ∙ y))
-              (λ e. (t .reads e .1, t .waits e .1)),
-        );
-      }
-
 module _ {R A W : List ℕ} {b s : Stand} (g : Comparing b R A W) (t : Turned (b .state) (b .first) (b .second) (b .output) (s .state) (s .first) (s .second) (s .output))
     (fx : b .state .first .failed ≡ false) (fy : b .state .second .failed ≡ false) where
   abbrev firsts : List (List ℕ)
@@ -135,10 +122,10 @@ module _ {R A W : List ℕ} {b s : Stand} (g : Comparing b R A W) (t : Turned (b
   seconds = g .seconds ++ t .seconds
 
   abbrev one : Turns (b .state .first) (b .first) (s .state .first) (s .first) (t .firsts)
-  one = first-turns t fx fy
+  one = file-turns (pairWaits (b .state) (b .first) (b .second)) fx (t .first-on) (t .ended-first) (t .cut-first) (λ e. t .compares e .1) (λ e. (t .reads e .0, t .waits e .0))
 
   abbrev two : Turns (b .state .second) (b .second) (s .state .second) (s .second) (t .seconds)
-  two = second-turns t fx fy
+  two = file-turns (pairWaits (b .state) (b .first) (b .second)) fy (t .second-on) (t .ended-second) (t .cut-second) (λ e. t .compares e .2) (λ e. (t .reads e .1, t .waits e .1))
 
   none-firsts : length (g .firsts) < length (g .seconds) → t .firsts ≡ []
   none-firsts h = let k = g .fewer-firsts h in none-taken one (k .0) (k .1)
@@ -158,28 +145,6 @@ module _ {R A W : List ℕ} {b s : Stand} (g : Comparing b R A W) (t : Turned (b
       let k = summed (length (g .firsts)) (length (g .seconds)) (length (t .firsts)) (length (t .seconds)) (λ h. ap length (none-firsts h)) (λ h. ap length (none-seconds h)) in
       t .number ∙ ap (λ (n : ℕ). n + max (length (t .firsts)) (length (t .seconds))) (g .number) ∙ k ∙ sym (ap₂ max x y)
 
-  fewer-firsts-on : length firsts < length seconds → (atEnd (s .state .first) ≡ true) × (s .state .first .held ≡ 0)
-  fewer-firsts-on h =
-      split (ltb (length (t .firsts)) (length (t .seconds)))
-      (λ u. let k = t .fewer-firsts (ltb-true (length (t .firsts)) (length (t .seconds)) u) in (still-seen one (end-seen (b .state .first) (k .0) fx) .1, k .1))
-      (λ u.
-      let l = ltb-false (length (t .firsts)) (length (t .seconds)) u in
-      let x = length-append (g .firsts) (t .firsts) in
-      let y = length-append (g .seconds) (t .seconds) in
-      let k = g .fewer-firsts (omega arith) in
-      (still-seen one (k .0) .1, stays-none one (k .0) (k .1)))
-
-  fewer-seconds-on : length seconds < length firsts → (atEnd (s .state .second) ≡ true) × (s .state .second .held ≡ 0)
-  fewer-seconds-on h =
-      split (ltb (length (t .seconds)) (length (t .firsts)))
-      (λ u. let k = t .fewer-seconds (ltb-true (length (t .seconds)) (length (t .firsts)) u) in (still-seen two (end-seen (b .state .second) (k .0) fy) .1, k .1))
-      (λ u.
-      let l = ltb-false (length (t .seconds)) (length (t .firsts)) u in
-      let x = length-append (g .firsts) (t .firsts) in
-      let y = length-append (g .seconds) (t .seconds) in
-      let k = g .fewer-seconds (omega arith) in
-      (still-seen two (k .0) .1, stays-none two (k .0) (k .1)))
-
   compared-on : Comparing s (R ++ firstIn b s) (A ++ secondIn b s) (W ++ writtenIn b s)
   compared-on =
       record {
@@ -189,8 +154,8 @@ module _ {R A W : List ℕ} {b s : Stand} (g : Comparing b R A W) (t : Turned (b
         cut-second = cuts-more two A (g .seconds) (g .cut-second);
         lines = lines-on;
         number = number-on;
-        fewer-firsts = fewer-firsts-on;
-        fewer-seconds = fewer-seconds-on;
+        fewer-firsts = λ h. fewer-on one (length (g .firsts)) (length (g .seconds)) (length (t .firsts)) (length (t .seconds)) fx (g .fewer-firsts) (t .fewer-firsts) (simp length-append at h);
+        fewer-seconds = λ h. fewer-on two (length (g .seconds)) (length (g .firsts)) (length (t .seconds)) (length (t .firsts)) fy (g .fewer-seconds) (t .fewer-seconds) (simp length-append at h);
       }
 
 -- a run goes on only where no read failed

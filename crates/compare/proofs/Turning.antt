@@ -5,18 +5,18 @@ use mathlib.Core.List.{List, [], _++_}
 use mathlib.Core.Bool.{Bool, true, false, not, _&&_, Bool·not-not}
 use native.Mathlib.Omega.{arith}
 use lib.Dec.{ltb, eqb}
-use lib.ListN.{length, take, drop}
-use lib.Seq.{drop-at, length-take-le}
+use lib.ListN.{length, getD, drop}
+use lib.Seq.{length-take-le}
 use borrow.Author.Tests.{eqb-true, eq-eqb}
 use Rattle.paper.specs.Words.{flat}
 use Rattle.paper.proofs.Bools.{both, left, right, not-both, or-right}
 use Rattle.format.specs.Cut.{sizeOf}
-use Rattle.format.proofs.Fitting.{within}
+use Rattle.format.proofs.Fitting.{within, room-left}
 use Rattle.stream.specs.declared.files.Feed.{Feed}
 use Rattle.stream.specs.Laid.{Puts}
 use Rattle.stream.specs.Turns.{shifted}
-use Rattle.stream.specs.Files.{Fed, brought, lessened, Onward, Unread}
-use Rattle.stream.proofs.Keeping.{taken-off, still-same}
+use Rattle.stream.specs.Files.{brought, lessened, Onward, Unread}
+use Rattle.stream.proofs.Keeping.{left-over, still-same}
 use Rattle.stream.proofs.Laying.{put-none, none-put}
 use Rattle.stream.proofs.Sides.{Side, side-fed, side-same, onward-less, unread-less, unread-same}
 use Rattle.compare.specs.Lines.{repliesOf, linesFrom}
@@ -26,40 +26,16 @@ use Rattle.compare.specs.Pairs.{ready, someLeft, goes, linesText, Cuts, 
 use Rattle.compare.specs.Turns.{waiting, sizeIn, pairWaits, stateOf, Goes, Went, Turned}
 use Rattle.compare.proofs.Lining.{not-nothing}
 
--- ---- what is done where no pair is compared
-
-module _ {r : State} (a b : Bool) (s : State) (first second : List ℕ) where
-  goes-first : {f : Feed} {after : List ℕ} → a ≡ false → r ≡ stateOf s f (s .second) (not (f .failed)) false → Fed (s .first) first f after → Goes a b s first second r after second
-  goes-first e q g = rw (e, q) (g, refl, refl)
-
-  module _ (e : a ≡ true) where
-    goes-second : {f : Feed} {after : List ℕ} → b ≡ false → r ≡ stateOf s (s .first) f (not (f .failed)) false → Fed (s .second) second f after → Goes a b s first second r first after
-    goes-second d q g = rw (e, d, q) (g, refl, refl)
-
-    goes-end : b ≡ true → r ≡ stateOf s (s .first) (s .second) false (someLeft (sizeIn (s .first) first) (sizeIn (s .second) second)) → Goes a b s first second r first second
-    goes-end d q = rw (e, d, q) (refl, refl, refl)
+-- ---- a turn that compares nothing
 
 -- a reply waits there, or the end does; or not
 abbrev Ready : Feed → List ℕ → Bool → Type 0
 Ready f l b = ready (f .ended) (sizeIn f l) ≡ b
 
-module _ {r : State} (s : State) (first second : List ℕ) where
-  pub went-first : {f : Feed} {after : List ℕ} → Ready (s .first) first false → r ≡ stateOf s f (s .second) (not (f .failed)) false → Fed (s .first) first f after → Went s first second r after second
-  went-first = goes-first _ _ s first second
-
-  module _ (e : Ready (s .first) first true) where
-    pub went-second : {f : Feed} {after : List ℕ} → Ready (s .second) second false → r ≡ stateOf s (s .first) f (not (f .failed)) false → Fed (s .second) second f after → Went s first second r first after
-    went-second = goes-second _ _ s first second e
-
-    pub went-end : Ready (s .second) second true → r ≡ stateOf s (s .first) (s .second) false (someLeft (sizeIn (s .first) first) (sizeIn (s .second) second)) → Went s first second r first second
-    went-end = goes-end _ _ s first second e
-
--- ---- a turn that compares nothing
-
 -- where no byte was taken no pair waits, and no line was made
 module _ {l : Compared} {output output′ : List ℕ} (s : State) (first second : List ℕ)
     (g : Paired (s .number) (waiting (s .first) first) (s .first .ended) (waiting (s .second) second) (s .second .ended) output l output′) where
-  pub none-waits : (eqb (l .first) 0 && eqb (l .second) 0) ≡ true
+  none-waits : (eqb (l .first) 0 && eqb (l .second) 0) ≡ true
       → (l .made + 49 ≤ length output′ → goes (l .number) (s .first .ended) (drop (l .first) (waiting (s .first) first)) (s .second .ended) (drop (l .second) (waiting (s .second) second)) ≡ false)
       → 49 ≤ length output → (pairWaits s first second ≡ false) × (output′ ≡ output)
   unfolding linesFrom flat
@@ -78,7 +54,7 @@ module _ {l : Compared} {output output′ : List ℕ} (s : State) (first second 
       let at-start : ℕ → ℕ → ℕ → Bool = λ (i j k : ℕ). goes k (s .first .ended) (drop i w) (s .second .ended) (drop j v) in
       (sym (ap₂ (λ (i j : ℕ). at-start i j (s .number)) a b) ∙ sym (ap (at-start (l .first) (l .second)) n) ∙ all (omega arith), p .1)
 
-  pub some-waits : (eqb (l .first) 0 && eqb (l .second) 0) ≡ false → l .first ≡ 0 → l .second ≡ 0 → ⊥
+  some-waits : (eqb (l .first) 0 && eqb (l .second) 0) ≡ false → l .first ≡ 0 → l .second ≡ 0 → ⊥
   some-waits t a b = not-both (eqb (l .first) 0 && eqb (l .second) 0) (both (eq-eqb (l .first) 0 a) (eq-eqb (l .second) 0 b)) t
 
 record Still (s : State) (first second : List ℕ) (r : State) (first′ second′ : List ℕ) : Type 0 where
@@ -121,12 +97,11 @@ module _ (s : State) (first second : List ℕ) (h : s .first .held ≤ length fi
         (still false (someLeft (sizeIn (s .first) first) (sizeIn (s .second) second)) (side-same (s .first) first h) (side-same (s .second) second k) (λ _. unread-same (s .first) first)
         (λ _. unread-same (s .second) second))
 
-    -- A TURN THAT COMPARES NOTHING
-    pub starved : {output output′ : List ℕ} → pairWaits s first second ≡ false → output′ ≡ output → Went s first second r first′ second′
+    starves : {output output′ : List ℕ} → pairWaits s first second ≡ false → output′ ≡ output → Went s first second r first′ second′
         → (sizeOf (waiting (s .first) first) ≡ 0 → s .first .held < length first) × (sizeOf (waiting (s .second) second) ≡ 0 → s .second .held < length second)
         → Turned s first second output r first′ second′ output′
     unfolding linesFrom flat
-    starved {output} {output′} p o w room =
+    starves {output} {output′} p o w room =
         let t = moved (ready (s .first .ended) (sizeIn (s .first) first)) (ready (s .second .ended) (sizeIn (s .second) second)) refl refl w in
         record {
           firsts = [];
@@ -150,17 +125,11 @@ module _ (s : State) (first second : List ℕ) (h : s .first .held ≤ length fi
 -- ---- a turn that compares some
 
 module _ {n : ℕ} {after : List ℕ} (f : Feed) (before : List ℕ) (h : f .held ≤ length before) (k : n ≤ length (waiting f before)) (e : after ≡ shifted before n (f .held)) where
-  -- what is behind the bytes that were taken waits then
-  left-over : drop n (waiting f before) ≡ waiting (lessened f n) after
-  left-over =
-      let x = waiting f before in
-      let w = within (f .held) before h k in
-      let q : x ≡ take n x ++ take (f .held - n) after = sym (still-same (f .held) (f .held - n) after (omega arith)) ∙ taken-off (take n x) (f .held) before h w refl e in
-      ap (drop n) q ∙ drop-at (take n x) (take (f .held - n) after) n (length-take-le n x k)
-
   cut-behind : (rs : List (List ℕ)) → Cuts (f .ended) (waiting f before) rs (drop n (waiting f before)) → Cuts (f .ended) (waiting f before ++ brought f (lessened f n) after) rs (waiting (lessened f n) after)
   cut-behind rs c more q =
-      ap (λ (l : List ℕ). repliesOf (l ++ more)) (still-same {all = waiting f before} (f .held) (f .held - n) after (omega arith)) ∙ c more q ∙ ap (λ (l : List ℕ). rs ++ repliesOf (l ++ more)) left-over
+      ap (λ (l : List ℕ). repliesOf (l ++ more)) (still-same {all = waiting f before} (f .held) (f .held - n) after (omega arith))
+      ∙ c more q
+      ∙ ap (λ (l : List ℕ). rs ++ repliesOf (l ++ more)) (left-over (f .held) before h k e)
 
   none-held : n ≡ length (waiting f before) → f .held - n ≡ 0
   none-held q = let l = length-take-le (f .held) before h in omega arith
@@ -178,25 +147,37 @@ gone s l wrote =
       spent = false;
     }
 
-module _ {l : Compared} {output output′ : List ℕ} (s : State) (first second : List ℕ) (h : s .first .held ≤ length first) (k : s .second .held ≤ length second)
-    (x : l .first ≤ length (waiting (s .first) first)) (y : l .second ≤ length (waiting (s .second) second))
+-- ---- one turn
+
+module _ {l : Compared} {output output′ : List ℕ} (s : State) (first second : List ℕ) (p : (s .first .held ≤ length first) × (s .second .held ≤ length second))
+    (q : (65539 ≤ length first) × (65539 ≤ length second) × (49 ≤ length output)) (one : (k : ℕ) → getD first k 0 < 256) (two : (k : ℕ) → getD second k 0 < 256)
     (g : Paired (s .number) (waiting (s .first) first) (s .first .ended) (waiting (s .second) second) (s .second .ended) output l output′) where
+  room : (sizeOf (waiting (s .first) first) ≡ 0 → s .first .held < length first) × (sizeOf (waiting (s .second) second) ≡ 0 → s .second .held < length second)
+  room = (room-left (s .first .held) first one (q .0) (p .0), room-left (s .second .held) second two (q .1) (p .1))
+
+  -- A TURN THAT COMPARES NOTHING
+  pub starved : {r : State} {first′ second′ : List ℕ} → (eqb (l .first) 0 && eqb (l .second) 0) ≡ true
+      → (l .made + 49 ≤ length output′ → goes (l .number) (s .first .ended) (drop (l .first) (waiting (s .first) first)) (s .second .ended) (drop (l .second) (waiting (s .second) second)) ≡ false)
+      → Went s first second r first′ second′ → Turned s first second output r first′ second′ output′
+  starved t all w = let n = none-waits s first second g t all (q .2) in starves s first second (p .0) (p .1) (n .0) (n .1) w room
+
   -- A TURN THAT COMPARES SOME
-  pub lined : {first′ second′ : List ℕ} (wrote : Bool) → first′ ≡ shifted first (l .first) (s .first .held) → second′ ≡ shifted second (l .second) (s .second .held) → (l .first ≡ 0 → l .second ≡ 0 → ⊥)
-      → (sizeOf (waiting (s .first) first) ≡ 0 → s .first .held < length first) × (sizeOf (waiting (s .second) second) ≡ 0 → s .second .held < length second)
-      → Turned s first second output (gone s l wrote) first′ second′ output′
-  lined {first′} {second′} wrote a b some room =
+  pub lined : {first′ second′ : List ℕ} (wrote : Bool) → (eqb (l .first) 0 && eqb (l .second) 0) ≡ false
+      → (l .first ≤ length (waiting (s .first) first)) × (l .second ≤ length (waiting (s .second) second)) × (l .made ≤ length output′) → first′ ≡ shifted first (l .first) (s .first .held)
+      → second′ ≡ shifted second (l .second) (s .second .held) → Turned s first second output (gone s l wrote) first′ second′ output′
+  lined {first′} {second′} wrote t x a b =
+      let some = some-waits s first second g t in
       record {
         firsts = g .firsts;
         seconds = g .seconds;
-        first-on = onward-less (s .first) (l .first) first first′ h (within (s .first .held) first h x) a;
-        second-on = onward-less (s .second) (l .second) second second′ k (within (s .second .held) second k y) b;
-        cut-first = cut-behind (s .first) first h x a (g .firsts) (g .cut-first);
-        cut-second = cut-behind (s .second) second k y b (g .seconds) (g .cut-second);
+        first-on = onward-less (s .first) (l .first) first first′ (p .0) (within (s .first .held) first (p .0) (x .0)) a;
+        second-on = onward-less (s .second) (l .second) second second′ (p .1) (within (s .second .held) second (p .1) (x .1)) b;
+        cut-first = cut-behind (s .first) first (p .0) (x .0) a (g .firsts) (g .cut-first);
+        cut-second = cut-behind (s .second) second (p .1) (x .1) b (g .seconds) (g .cut-second);
         lines = g .lines;
         number = g .number;
-        fewer-firsts = λ q. let f = g .fewer-firsts q in (f .0, none-held (s .first) first h x a (f .1));
-        fewer-seconds = λ q. let f = g .fewer-seconds q in (f .0, none-held (s .second) second k y b (f .1));
+        fewer-firsts = λ k. let f = g .fewer-firsts k in (f .0, none-held (s .first) first (p .0) (x .0) a (f .1));
+        fewer-seconds = λ k. let f = g .fewer-seconds k in (f .0, none-held (s .second) second (p .1) (x .1) b (f .1));
         compares =
             λ _. (
               g .any (not-nothing (l .first) (l .second) some),
@@ -205,8 +186,8 @@ module _ {l : Compared} {output output′ : List ℕ} (s : State) (first second 
               sym (Bool·not-not wrote),
               refl,
             );
-        reads = λ q. let z = g .none q in absurd (some (z .0) (z .1));
-        waits = λ q. let z = g .none q in absurd (some (z .0) (z .1));
+        reads = λ k. let z = g .none k in absurd (some (z .0) (z .1));
+        waits = λ k. let z = g .none k in absurd (some (z .0) (z .1));
         ended-first = λ _. unread-less (s .first) (l .first) first′;
         ended-second = λ _. unread-less (s .second) (l .second) second′;
         room = room;

@@ -150,7 +150,7 @@ fn turn(s: State, first: &mut [u8], second: &mut [u8], output: &mut [u8]) -> Sta
         return go_on(s, first, second);
     }
     let made = l.made;
-    let wrote = io::write_all(1, &output[..made]);
+    let wrote = stream::write_front(output, made).wrote;
     stream::shift(first, n, i);
     stream::shift(second, m, j);
     let x = stream::files::without(a, n);
@@ -174,18 +174,8 @@ fn run(first_fd: i32, second_fd: i32, first: &mut [u8], second: &mut [u8], out: 
 {
     let mut s = State {
         number: 0,
-        first: Feed {
-            fd: first_fd,
-            held: 0,
-            ended: false,
-            failed: false,
-        },
-        second: Feed {
-            fd: second_fd,
-            held: 0,
-            ended: false,
-            failed: false,
-        },
+        first: stream::files::unread(first_fd),
+        second: stream::files::unread(second_fd),
         made: 0,
         more: true,
         unwritten: false,
@@ -194,10 +184,7 @@ fn run(first_fd: i32, second_fd: i32, first: &mut [u8], second: &mut [u8], out: 
     let mut left: u64 = 18446744073709551615;
     while left > 0 {
         s = turn(s, first, second, out);
-        if !s.more {
-            return s;
-        }
-        left -= 1;
+        left = stream::turns_left(left, s.more);
     }
     s
 }

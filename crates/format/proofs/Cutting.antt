@@ -4,10 +4,10 @@ use mathlib.Core.Path.{_≡_, refl, sym, ap, ap₂, _∙_}
 use mathlib.Core.List.{List, [], _∷_, _++_, append-assoc, append-nil}
 use mathlib.Core.Bool.{Bool, true}
 use native.Mathlib.Omega.{arith}
-use lib.Dec.{eqb}
+use lib.Dec.{eqb, ltb}
 use lib.ListN.{length, getD, take, drop, length-drop, length-append, take-append-drop, List·getD-append}
 use lib.Seq.{take-at, take-add, drop-at, length-take-le}
-use borrow.Author.Tests.{eqb-true, eqb-false, eq-eqb, ne-eqb, le-leb}
+use borrow.Author.Tests.{eqb-true, eqb-false, eq-eqb, ne-eqb, le-leb, lt-ltb}
 use Rattle.paper.specs.Words.{allB}
 use Rattle.paper.specs.Records.{lengthOf}
 use Rattle.paper.proofs.Bools.{split, both, left, right}
@@ -207,3 +207,9 @@ pub all-joined : (f : ℕ → Bool) (rs : List (List ℕ)) → allB f (joined rs
 unfolding joined allB
 all-joined f [] a = refl
 all-joined f (r ∷ rs) a = let k = all-parts f r (joined rs) a in both (k .0) (all-joined f rs (k .1))
+
+-- Bytes are lent as `&[u8]`, and of a slice of u8 the kit knows that each element is below 256 (`shared-slice-known`, `slice-known`): so they are a list of bytes
+pub lent-bytes : (r : List ℕ) → ((k : ℕ) → getD r k 0 < 256) → allB (λ (b : ℕ). ltb b 256) r ≡ true
+unfolding allB
+lent-bytes [] h = refl
+lent-bytes (b ∷ r) h = both (lt-ltb b 256 (h 0)) (lent-bytes r (λ k. h (suc k)))

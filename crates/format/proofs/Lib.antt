@@ -2,3 +2,4 @@ pub mod Fitting
 pub mod Ends
 pub mod Cutting
 pub mod Reading
+pub mod Tails

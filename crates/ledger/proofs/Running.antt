@@ -5,17 +5,15 @@ use mathlib.Core.List.{List, [], _++_}
 use mathlib.Core.Bool.{true, false}
 use lib.Dec.{ltb}
 use lib.IntN.{ℤ}
-use lib.ListN.{take}
 use Rattle.paper.specs.Words.{allB}
 use Rattle.paper.specs.Reading.{furtherAll}
 use Rattle.paper.specs.State.{fresh}
 use Rattle.paper.specs.Step.{replies}
 use Rattle.paper.specs.Watch.{watched}
-use Rattle.paper.proofs.Bools.{not-both}
 use Rattle.format.specs.Cut.{joined, cut}
-use Rattle.stream.specs.declared.files.Feed.{Feed}
 use Rattle.stream.specs.Turns.{through}
-use Rattle.stream.proofs.Running.{Reached, by-turns}
+use Rattle.stream.proofs.Running.{Reached, to-the-end}
+use Rattle.stream.proofs.Sides.{none-waits}
 use Rattle.watch.specs.Pairs.{tallyAll}
 use Rattle.ledger.specs.Verdict.{judged}
 use Rattle.ledger.specs.Turns.{Judging, Settled, Stand, recordsIn, repliesIn, Starts, Turning, Judges}
@@ -31,38 +29,34 @@ nothing-read {s = s} b =
       answers = [];
       whole-said = refl;
       whole-answers = refl;
-      cut-said = sym (ap (λ (f : Feed). take (f .held) (s .records)) (b .records));
-      cut-answers = sym (ap (λ (f : Feed). take (f .held) (s .replies)) (b .replies));
+      cut-said = sym (none-waits (s .records) (b .records));
+      cut-answers = sym (none-waits (s .replies) (b .replies));
       unbroken = refl;
       number = b .number;
       book = b .book;
     }
 
--- what the turns brought is judged so far, while the run goes on, and where it ended it is the answer
-record Told (R A : List ℕ) (s : Stand) : Type 0 where
-  on : s .state .more ≡ true → Judging (s .state) (s .records) (s .replies) R A
-  end : s .state .more ≡ false → s .state .records .failed ≡ false → s .state .replies .failed ≡ false → Settled (s .state) R A
+abbrev SoFar : List ℕ → List ℕ → Stand → Type 0
+SoFar R A s = Judging (s .state) (s .records) (s .replies) R A
 
-told-on : (R A : List ℕ) (b s : Stand) → Told R A b → Turning b s → Told (R ++ recordsIn b s) (A ++ repliesIn b s) s
-told-on R A b s g t = let j = g .on (t .0) in record { on = t .1 .keeps .goes-on R A j; end = t .1 .keeps .ends R A j }
+-- where the run ended it has the answer
+abbrev End : List ℕ → List ℕ → Stand → Type 0
+End R A s = s .state .records .failed ≡ false → s .state .replies .failed ≡ false → Settled (s .state) R A
 
-module _ (x y : ℤ) where
-  told-none : (s : Stand) → Starts x y s → Told [] [] s
-  told-none s b = record { on = λ _. nothing-read b; end = λ m p q. not-both (s .state .more) (b .more) m }
-
-  -- THE WHOLE RUN
-  pub judges : (s : Stand) → Reached (Starts x y) Turning s → Judges x y s
-  judges s r =
-      let turns = r .turns in
-      record {
-        turns = turns;
-        R = through recordsIn turns s;
-        A = through repliesIn turns s;
-        ran = r .ran;
-        read = refl;
-        heard = refl;
-        answer = by-turns recordsIn repliesIn Told told-none told-on turns s (r .ran) .end;
-      }
+-- THE WHOLE RUN
+pub judges : (x y : ℤ) (s : Stand) → Reached (Starts x y) Turning s → Judges x y s
+judges x y s r =
+    record {
+      turns = r .turns;
+      R = through recordsIn (r .turns) s;
+      A = through repliesIn (r .turns) s;
+      ran = r .ran;
+      read = refl;
+      heard = refl;
+      answer =
+          to-the-end recordsIn repliesIn (λ (z : Stand). z .state .more) SoFar End (λ z b. (b .more, nothing-read b)) (λ b z t. t .0) (λ R A b z j t. t .1 .keeps .goes-on R A j)
+          (λ R A b z j t. t .1 .keeps .ends R A j) (r .turns) s (r .ran);
+    }
 
 -- ---- the theorem of the program
 

@@ -143,28 +143,15 @@ fn run(records_fd: i32, replies_fd: i32, records: &mut [u8], replies: &mut [u8])
     let mut s = State {
         book: Book::new(),
         number: 0,
-        records: Feed {
-            fd: records_fd,
-            held: 0,
-            ended: false,
-            failed: false,
-        },
-        replies: Feed {
-            fd: replies_fd,
-            held: 0,
-            ended: false,
-            failed: false,
-        },
+        records: stream::files::unread(records_fd),
+        replies: stream::files::unread(replies_fd),
         part: 0,
         more: true,
     };
     let mut left: u64 = 18446744073709551615;
     while left > 0 {
         s = turn(s, records, replies);
-        if !s.more {
-            return s;
-        }
-        left -= 1;
+        left = stream::turns_left(left, s.more);
     }
     s
 }

@@ -10,7 +10,7 @@ use Rattle.paper.specs.Ledger.{Exchange}
 use Rattle.paper.specs.Statement.{exchanges}
 use Rattle.paper.specs.Watch.{pairs}
 
-abbrev again : Reading → List Exchange → List Exchange
+abbrev pub again : Reading → List Exchange → List Exchange
 again st xs = pairs st (map (λ (x : Exchange). x .said) xs) (map (λ (x : Exchange). x .answered) xs)
 
 pub pairs-again : (st : Reading) (rs answers : List (List ℕ)) → again st (pairs st rs answers) ≡ pairs st rs answers

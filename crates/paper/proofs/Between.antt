@@ -83,10 +83,14 @@ threw L r (Reply.Started b t) d o h = both (eq-eqb (kindOf r) beginKind (sym (eq
 threw L r (Reply.Listed l0 l1) d o h = not-both (none {A = Serial} []) none-nothing h
 
 -- exchanges in two parts
-told-append : (L : Ledger) (bs : List Exchange) (x : Exchange) (ls : List Exchange) → told L (bs ++ (x ∷ ls)) ≡ told (hear (told L bs) (x .said) (replyIn x)) ls
+pub told-append : (L : Ledger) (bs ls : List Exchange) → told L (bs ++ ls) ≡ told (told L bs) ls
 unfolding told
-told-append L [] x ls = refl
-told-append L (b ∷ bs) x ls = told-append (hear L (b .said) (replyIn b)) bs x ls
+told-append L [] ls = refl
+told-append L (b ∷ bs) ls = told-append (hear L (b .said) (replyIn b)) bs ls
+
+told-one : (L : Ledger) (bs : List Exchange) (x : Exchange) (ls : List Exchange) → told L (bs ++ (x ∷ ls)) ≡ told (hear (told L bs) (x .said) (replyIn x)) ls
+unfolding told
+told-one L bs x ls = told-append L bs (x ∷ ls)
 
 module _ (bs ls : List Exchange) (x : Exchange) (o : told blank (bs ++ (x ∷ ls)) .ok ≡ true) where
   abbrev y : ℕ
@@ -99,7 +103,7 @@ module _ (bs ls : List Exchange) (x : Exchange) (o : told blank (bs ++ (x ∷ ls
   after = hear before (x .said) (replyIn x)
 
   rest-ok : told after ls .ok ≡ true
-  rest-ok = ap (λ (L : Ledger). L .ok) (sym (told-append blank bs x ls)) ∙ o
+  rest-ok = ap (λ (L : Ledger). L .ok) (sym (told-one blank bs x ls)) ∙ o
 
   after-ok : after .ok ≡ true
   after-ok = ok-told after ls rest-ok
@@ -135,7 +139,7 @@ module _ (bs ls : List Exchange) (x : Exchange) (o : told blank (bs ++ (x ∷ ls
   once-at b t p z =
       let a = from-all after ls after-tidy rest-ok .held y in
       let c = sep-once y (linesOf after) (after-tidy .apart) in
-      let k = ap (λ (L : Ledger). count y (surfaces (linesOf L))) (told-append blank bs x ls) in
+      let k = ap (λ (L : Ledger). count y (surfaces (linesOf L))) (told-one blank bs x ls) in
       omega (arith, a, c, k, held-after b t p, z)
 
   lists-at : (l0 l1 : List Serial) → replyIn x ≡ Reply.Listed l0 l1 → names (l0 ++ l1) (linesOf before) ≡ true
@@ -152,7 +156,7 @@ module _ (bs ls : List Exchange) (x : Exchange) (o : told blank (bs ++ (x ∷ ls
       let w : All Own (begunIn (x .said) (replyIn x)) = subst (λ (a : Reply). All Own (begunIn (x .said) a)) (sym p) (or-right (not (lies y (lineOf (x .said) b))) _ (eq-eqb (b .serial .0) (b .serial .0) refl), tt) in
       let k : All Own (linesOf after) = lines-tell Own (λ n e h. h) before (x .said) (replyIn x) a w in
       let g : All Own (begunAll ls) = all-more (λ (e : Line). lies y e ≡ false) Own own-other (begunAll ls) (count-free y (begunAll ls) z) in
-      subst (λ (L : Ledger). allB own (linesOf L) ≡ true) (sym (told-append blank bs x ls)) (all-true own (linesOf (told after ls)) (lines-told Own (λ n e h. h) after ls k g))
+      subst (λ (L : Ledger). allB own (linesOf L) ≡ true) (sym (told-one blank bs x ls)) (all-true own (linesOf (told after ls)) (lines-told Own (λ n e h. h) after ls k g))
     where
       own : Line → Bool
       own e = not (lies y e) || sameSerial (e .serial) (b .serial)

@@ -34,7 +34,7 @@ unfolding stepOf
 heard-step st s r i b = ap (heard r) (read-back st (decideOf s r .reply) (good-step s r i b .fit)) ∙ hears s r
 
 -- a reply that is one to the record is told
-hear-tell : (L : Ledger) (r : List ℕ) (x : Reply) → heard r x ≡ true → hear L r x ≡ tell L r x
+pub hear-tell : (L : Ledger) (r : List ℕ) (x : Reply) → heard r x ≡ true → hear L r x ≡ tell L r x
 hear-tell L r x h = ap (λ (b : Bool). record { held = tell L r x .held; current = tell L r x .current; begun = tell L r x .begun; ok = b && tell L r x .ok }) h
 
 pub told-all : (st : Reading) (s : Session) (rs : List (List ℕ)) → Sound s → Bytes rs → told (ledgerOf s) (exchanges st s rs) ≡ ledgerOf (sessionAfter s rs)

@@ -50,7 +50,7 @@ pub record FitBegun (b : Begun) : Type 0 where
 pub two-back : (n : ℕ) → n < 65536 → n % 256 + 256 * (n / 256 % 256) ≡ n
 two-back n h = omega arith
 
-four-back : (n : ℕ) → n < 4294967296 → n % 256 + 256 * (n / 256 % 256) + 65536 * (n / 65536 % 256 + 256 * (n / 16777216 % 256)) ≡ n
+pub four-back : (n : ℕ) → n < 4294967296 → n % 256 + 256 * (n / 256 % 256) + 65536 * (n / 65536 % 256 + 256 * (n / 16777216 % 256)) ≡ n
 four-back n h =
     let a : n / 256 / 256 ≡ n / 65536 = div-div-eq-div-mul n 256 256 in
     let b : n / 65536 / 256 ≡ n / 16777216 = div-div-eq-div-mul n 65536 256 in

@@ -1,20 +1,14 @@
 -- What is made stays within the buffer.
-use Prim.Native.Nat.{ℕ, _+_, _-_, _≤_}
+use Prim.Native.Nat.{ℕ, _≤_}
 use mathlib.Core.Path.{_≡_, sym, ap, _∙_}
 use mathlib.Core.List.{List}
 use native.Mathlib.Omega.{arith}
-use lib.ListN.{length, drop, length-drop, length-append}
-use Rattle.wire.specs.Bytes.{over}
+use lib.ListN.{length}
 use Rattle.paper.specs.Step.{stepOf}
 use Rattle.session.specs.declared.Answer.{Answer}
 use Rattle.session.specs.Said.{Permitted}
 use Rattle.session.specs.View.{Memory, sessionIn}
-
-over-longest : (p l : List ℕ) → length (over p l) ≡ length l → length p ≤ length l
-unfolding over
-over-longest p l e =
-    let k : length p + (length l - length p) ≡ length l = sym (length-append p (drop (length p) l) ∙ ap (λ (n : ℕ). length p + n) (length-drop (length p) l)) ∙ e in
-    omega arith
+use Rattle.filter.proofs.Fitting.{over-longest}
 
 -- a reply ends within the room that was lent
 pub reply-fits : {m m′ : Memory} {r before : List ℕ} {a : Answer} {after : List ℕ} → Permitted m r before a m′ after → length after ≡ length before → a .len ≤ length before

@@ -1,5 +1,3 @@
 pub mod Fitting
 pub mod Answering
-pub mod Turning
-pub mod Running
 pub mod Paper

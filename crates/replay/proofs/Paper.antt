@@ -1,12 +1,12 @@
 -- Demand 3 of the program's own bytes: from memory that `fresh` made, whatever the reads of its turns brought, the blocks that the turns made are the paper's replies to
 -- the whole records in it; as cut by their heads these exchanges keep demand 3, and a ledger over them finds nothing broken.
-use Prim.Native.Nat.{ℕ, suc, _+_, _<_}
+use Prim.Native.Nat.{ℕ, suc, _+_}
 use mathlib.Core.Path.{_≡_, refl, sym, ap, ap₂, subst, _∙_}
 use mathlib.Core.List.{List, [], _∷_, _++_, map, append-nil}
 use mathlib.Core.Bool.{Bool, true}
 use native.Mathlib.Omega.{arith}
 use lib.Dec.{ltb}
-use lib.ListN.{length, getD, take, drop, take-append-drop}
+use lib.ListN.{length}
 use borrow.Author.Tests.{eq-eqb}
 use Rattle.paper.specs.Words.{allB}
 use Rattle.paper.specs.Records.{lengthOf}
@@ -19,19 +19,33 @@ use Rattle.paper.specs.Ledger.{Exchange, blank, told}
 use Rattle.paper.specs.Statement.{Bytes, Kept, Statement, exchanges, ledgerOf}
 use Rattle.paper.specs.Watch.{watched, pairs}
 use Rattle.paper.proofs.Bools.{both}
-use Rattle.paper.proofs.Every.{All}
 use Rattle.paper.proofs.Rooms.{any-room}
 use Rattle.paper.proofs.Refusals.{head-says}
 use Rattle.paper.proofs.Demand.{demand}
 use Rattle.paper.proofs.Unbroken.{watched-fresh}
 use Rattle.format.specs.Cut.{Parts, sizeOf, joined, isWhole, cut, restOf}
-use Rattle.stream.specs.Turns.{through}
-use Rattle.format.proofs.Cutting.{parts-none, front-cut, one-cut, all-append, all-parts, all-joined}
-use Rattle.session.proofs.Bridge.{lent-bytes}
-use Rattle.replay.specs.Turns.{Stand, waiting, readIn, Replays, KeptRun}
-use Rattle.replay.proofs.Answering.{after-append}
+use Rattle.format.proofs.Cutting.{parts-none, front-cut, one-cut, all-parts, all-joined}
+use Rattle.filter.specs.Machine.{outs, stateAfter}
+use Rattle.filter.specs.Turns.{Stand, waiting, Serves}
+use Rattle.filter.proofs.Answering.{after-append}
+use Rattle.replay.specs.Machine.{sessions}
+use Rattle.replay.specs.Kept.{KeptRun}
 
 -- ---- a session's replies
+
+-- those of the machine, and the session that it leaves
+outs-are : (s : P.Session) (rs : List (List ℕ)) → outs sessions s rs ≡ replies s rs
+unfolding outs replies
+outs-are s [] = refl
+outs-are s (r ∷ rs) = ap (λ (l : List (List ℕ)). stepOf s r 512 .bytes ∷ l) (outs-are (stepOf s r 512 .next) rs)
+
+after-is : (s : P.Session) (rs : List (List ℕ)) → stateAfter sessions s rs ≡ sessionAfter s rs
+unfolding stateAfter sessionAfter
+after-is s [] = refl
+after-is s (r ∷ rs) = after-is (stepOf s r 512 .next) rs
+
+later-after : (s : P.Session) (rs qs : List (List ℕ)) → sessionAfter s (rs ++ qs) ≡ sessionAfter (sessionAfter s rs) qs
+later-after s rs qs = sym (after-is s (rs ++ qs)) ∙ after-append sessions s rs qs ∙ ap (λ (v : P.Session). stateAfter sessions v qs) (after-is s rs) ∙ after-is (sessionAfter s rs) qs
 
 -- as many as records
 as-many : (s : P.Session) (rs : List (List ℕ)) → length rs ≡ length (replies s rs)
@@ -47,7 +61,7 @@ replies-whole rs (q ∷ qs) =
     let v = sessionAfter fresh rs in
     let a = stepOf v q 512 .bytes in
     let h = head-says rs q 512 (omega arith) in
-    both (eq-eqb (length a) (4 + lengthOf a) (omega (arith, h))) (subst (λ (s : P.Session). allB isWhole (replies s qs) ≡ true) (after-append fresh rs (q ∷ [])) (replies-whole (rs ++ (q ∷ [])) qs))
+    both (eq-eqb (length a) (4 + lengthOf a) (omega (arith, h))) (subst (λ (s : P.Session). allB isWhole (replies s qs) ≡ true) (later-after fresh rs (q ∷ [])) (replies-whole (rs ++ (q ∷ [])) qs))
 
 -- with its records, and whatever records come behind these, they are the session's exchanges
 pairs-front : (st : Reading) (s : P.Session) (rs more : List (List ℕ)) → pairs st (rs ++ more) (replies s rs) ≡ exchanges st s rs
@@ -68,26 +82,9 @@ all-answered (r ∷ rs) = ap (λ (l : List (List ℕ)). r ∷ l) (all-answered r
 stated : (rs : List (List ℕ)) → Bytes rs → Statement (roomy rs) rs
 stated rs b = let e = all-answered rs in subst (Statement (roomy rs)) e (demand (roomy rs) (subst Bytes (sym e) b))
 
--- ---- what is read are bytes: the input buffer is lent to each turn as `&mut [u8]`, and of a slice of u8 the kit knows that each element is below 256 (`slice-known`)
-
-abbrev Lent : Stand → Type 0
-Lent s = (k : ℕ) → getD (s .input) k 0 < 256
-
-pub brought-bytes : (turns : List Stand) (s : Stand) → All Lent turns → Lent s → allB (λ (b : ℕ). ltb b 256) (through readIn turns s) ≡ true
-unfolding through allB
-brought-bytes [] s g l = refl
-brought-bytes (b ∷ earlier) s g l =
-    let f : ℕ → Bool = λ (x : ℕ). ltb x 256 in
-    let xs = s .input in
-    let n = s .after .held in
-    let m = b .after .held in
-    let held = all-parts f (take n xs) (drop n xs) (ap (allB f) (take-append-drop n xs) ∙ lent-bytes xs l) .0 in
-    let new = all-parts f (take m (take n xs)) (drop m (take n xs)) (ap (allB f) (take-append-drop m (take n xs)) ∙ held) .1 in
-    all-append f (through readIn earlier b) (drop m (take n xs)) (brought-bytes earlier b (g .1) (g .0)) new
-
 -- ---- the program: where its run stands after any of its turns
 
-module _ (s : Stand) (t : Replays s) where
+module _ (s : Stand P.Session) (t : Serves sessions fresh s) where
   abbrev R : List ℕ
   R = t .R
 
@@ -97,6 +94,9 @@ module _ (s : Stand) (t : Replays s) where
   abbrev rs : List (List ℕ)
   rs = t .said
 
+  replied : W ≡ joined (replies fresh rs)
+  replied = t .replied ∙ ap joined (outs-are fresh rs)
+
   cut-records : cut R ≡ rs ++ cut (waiting s)
   cut-records = ap cut (t .kept) ∙ ap (λ (p : Parts). p .whole) (front-cut rs (waiting s) (t .whole))
 
@@ -105,7 +105,7 @@ module _ (s : Stand) (t : Replays s) where
 
   parts-made : _≡_ {A = Parts} (record { whole = cut W; rest = restOf W }) (record { whole = replies fresh rs; rest = [] })
   unfolding sessionAfter
-  parts-made = one-cut (replies fresh rs) [] (append-nil (joined (replies fresh rs)) ∙ sym (t .replied)) (replies-whole [] rs) refl
+  parts-made = one-cut (replies fresh rs) [] (append-nil (joined (replies fresh rs)) ∙ sym replied) (replies-whole [] rs) refl
 
   cut-made : cut W ≡ replies fresh rs
   cut-made = ap (λ (p : Parts). p .whole) parts-made
@@ -115,9 +115,9 @@ module _ (s : Stand) (t : Replays s) where
 
   -- WHERE NO WHOLE RECORD WAITS, WHAT WAS MADE IS THE PAPER'S REPLIES TO THE WHOLE RECORDS THAT WERE READ
   pub replay-replies : sizeOf (waiting s) ≡ 0 → W ≡ joined (replies fresh (cut R))
-  replay-replies n = t .replied ∙ ap (λ (l : List (List ℕ)). joined (replies fresh l)) (sym (all-taken n))
+  replay-replies n = replied ∙ ap (λ (l : List (List ℕ)). joined (replies fresh l)) (sym (all-taken n))
 
-  -- what is read are bytes: `brought-bytes` has it of the lent buffers
+  -- what is read are bytes: `brought-bytes` of filter has it of the lent buffers
   module _ (bytes : allB (λ (b : ℕ). ltb b 256) R ≡ true) where
     records-bytes : Bytes rs
     records-bytes = let f : ℕ → Bool = λ (x : ℕ). ltb x 256 in all-joined f rs (all-parts f (joined rs) (waiting s) (ap (allB f) (sym (t .kept)) ∙ bytes) .0)
@@ -128,7 +128,7 @@ module _ (s : Stand) (t : Replays s) where
         let d = stated rs records-bytes in
         record {
           kept = subst Kept (sym heard) (d .kept);
-          true-to = ap (told blank) heard ∙ d .true-to ∙ ap ledgerOf (any-room fresh (roomy rs) ∙ ap (sessionAfter fresh) (all-answered rs) ∙ sym (t .session));
+          true-to = ap (told blank) heard ∙ d .true-to ∙ ap ledgerOf (any-room fresh (roomy rs) ∙ ap (sessionAfter fresh) (all-answered rs) ∙ sym (t .state ∙ after-is fresh rs));
           done = ap (λ (p : Parts). p .rest) parts-made;
           even = λ n. ap length (all-taken n) ∙ as-many fresh rs ∙ ap length (sym cut-made);
         }

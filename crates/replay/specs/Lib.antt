@@ -1,2 +1,2 @@
-pub mod Answers
-pub mod Turns
+pub mod Machine
+pub mod Kept

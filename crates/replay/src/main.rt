@@ -1,39 +1,26 @@
 // Layer 4, the program: "reads records from standard input and writes the replies". A record is answered when all of it
 // is there. So the session itself answers 13 to a body over 512 bytes, and a last record that is incomplete gets no
 // reply.
+use filter::After;
+use filter::Answered;
 use session::Answer;
 use session::FRONT;
 use store::Store;
-use stream::Read;
 ghost use mathlib.Core.Path.{_≡_};
 ghost use Prim.Native.Nat.{_+_, _-_, _≤_, _<_};
 ghost use lib.ListN.{length, drop};
 ghost use Rattle.format.specs.Cut.{sizeOf};
-ghost use Rattle.session.specs.View.{memory};
-ghost use Rattle.replay.specs.Answers.{Added, Answers};
-ghost use Rattle.replay.specs.Turns.{fedBy, Turned, standing, Replays};
+ghost use Rattle.paper.specs.State.{fresh};
+ghost use Rattle.session.specs.View.{memory, sessionIn};
+ghost use Rattle.filter.specs.Answers.{Added, Answers};
+ghost use Rattle.filter.specs.Turns.{Turned, standing, Serves};
+ghost use Rattle.replay.specs.Machine.{sessions};
 
 // A record has at most 65,539 bytes, so there is always room to read on behind one that is not whole yet.
 const INPUT: usize = 131072;
 
 // Room for the replies of one write.
 const OUTPUT: usize = 65536;
-
-// How many bytes of records were answered, and how many their replies have.
-struct Answered {
-    taken: usize,
-    made: usize,
-}
-
-// How many bytes wait at the start of the input buffer, how many bytes of replies were handed over to be written,
-// whether the run goes on, and whether standard input could not be read or standard output not be written.
-struct After {
-    held: usize,
-    made: usize,
-    more: bool,
-    unread: bool,
-    unwritten: bool,
-}
 
 // Answers one record, with the reply behind the `made` bytes of the earlier ones.
 fn reply_to(
@@ -45,9 +32,9 @@ fn reply_to(
     made: usize,
 ) -> Answer
     requires { ⌜ made + 512 ≤ length (now replies) ⌝ }
-    ensures { λ r. ⌜ Added (memory (now (front .entry)) (now (sets .entry)) (now (store .entry)))
-        (now (msg .entry)) made (now (replies .entry)) r
-        (memory (now (front .exit)) (now (sets .exit)) (now (store .exit))) (now (replies .exit)) ⌝ }
+    ensures { λ r. ⌜ Added sessions (sessionIn (memory (now (front .entry)) (now (sets .entry)) (now (store .entry))))
+        (now (msg .entry)) made (now (replies .entry)) (r .len)
+        (sessionIn (memory (now (front .exit)) (now (sets .exit)) (now (store .exit)))) (now (replies .exit)) ⌝ }
 {
     session::step(front, sets, store, msg, &mut replies[made..])
 }
@@ -61,8 +48,9 @@ fn answer(
     replies: &mut [u8],
 ) -> Answered
     ensures within { λ r. ⌜ (r .taken ≤ length (now (bytes .entry))) × (r .made ≤ length (now (replies .exit))) ⌝ }
-    ensures answers { λ r. ⌜ Answers (memory (now (front .entry)) (now (sets .entry)) (now (store .entry)))
-        (now (bytes .entry)) (memory (now (front .exit)) (now (sets .exit)) (now (store .exit))) (r .taken) (r .made)
+    ensures answers { λ r. ⌜ Answers sessions
+        (sessionIn (memory (now (front .entry)) (now (sets .entry)) (now (store .entry)))) (now (bytes .entry))
+        (sessionIn (memory (now (front .exit)) (now (sets .exit)) (now (store .exit)))) (r .taken) (r .made)
         (now (replies .entry)) (now (replies .exit)) ⌝ }
     ensures all { λ r. ⌜ (r .made + 512 ≤ length (now (replies .exit))
         → sizeOf (drop (r .taken) (now (bytes .entry))) ≡ 0) ⌝ }
@@ -82,20 +70,6 @@ fn answer(
     Answered { taken, made }
 }
 
-// What a turn gives that only read: the run goes on where something was read.
-fn fed(held: usize, r: Read) -> After
-    ensures { λ a. ⌜ a ≡ fedBy held r ⌝ }
-{
-    let now = r.held;
-    After {
-        held: now,
-        made: 0,
-        more: held < now,
-        unread: r.failed,
-        unwritten: false,
-    }
-}
-
 // Answers what is whole and writes the replies; reads on only where nothing is whole, so that no reply waits for input.
 fn turn(
     front: &mut [u32; FRONT],
@@ -108,26 +82,13 @@ fn turn(
     requires { ⌜ held ≤ length (now input) ⌝ }
     requires { ⌜ (65539 ≤ length (now input)) × (512 ≤ length (now output)) ⌝ }
     ensures { λ r. ⌜ r .held ≤ length (now (input .exit)) ⌝ }
-    ensures turned { λ r. ⌜ Turned (memory (now (front .entry)) (now (sets .entry)) (now (store .entry))) held
-        (now (input .entry)) (now (output .entry)) (memory (now (front .exit)) (now (sets .exit)) (now (store .exit))) r
+    ensures turned { λ r. ⌜ Turned sessions
+        (sessionIn (memory (now (front .entry)) (now (sets .entry)) (now (store .entry)))) held (now (input .entry))
+        (now (output .entry)) (sessionIn (memory (now (front .exit)) (now (sets .exit)) (now (store .exit)))) r
         (now (input .exit)) (now (output .exit)) ⌝ }
 {
     let a = answer(front, sets, store, &input[..held], output);
-    let taken = a.taken;
-    if taken == 0 {
-        let r = stream::read_on(0, held, input);
-        return fed(held, r);
-    }
-    let made = a.made;
-    let more = io::write_all(1, &output[..made]);
-    stream::shift(input, taken, held);
-    After {
-        held: held - taken,
-        made,
-        more,
-        unread: false,
-        unwritten: !more,
-    }
+    filter::go_on(a, held, input, output)
 }
 
 // Turn after turn from a fresh session. Nothing says that the input ends, so the turns are counted.
@@ -139,25 +100,16 @@ fn run(
     output: &mut [u8],
 ) -> After
     requires { ⌜ (65539 ≤ length (now input)) × (512 ≤ length (now output)) ⌝ }
-    ensures { λ r. ⌜ Replays
-        (standing (memory (now (front .exit)) (now (sets .exit)) (now (store .exit))) r (now (input .exit))
+    ensures { λ r. ⌜ Serves sessions fresh
+        (standing (sessionIn (memory (now (front .exit)) (now (sets .exit)) (now (store .exit)))) r (now (input .exit))
         (now (output .exit))) ⌝ }
 {
     session::fresh(front, sets, store);
-    let mut t = After {
-        held: 0,
-        made: 0,
-        more: true,
-        unread: false,
-        unwritten: false,
-    };
+    let mut t = filter::start();
     let mut left: u64 = 18446744073709551615;
     while left > 0 {
         t = turn(front, sets, store, t.held, input, output);
-        if !t.more {
-            return t;
-        }
-        left -= 1;
+        left = stream::turns_left(left, t.more);
     }
     t
 }

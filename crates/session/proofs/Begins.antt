@@ -24,6 +24,7 @@ use Rattle.paper.specs.Kinds.{beginKind, replyTo}
 use Rattle.paper.specs.Flags.{validPrev}
 use Rattle.paper.specs.State.{Session, modulus, allRefs}
 use Rattle.paper.specs.Records.{Fields, fieldsOf}
+use Rattle.paper.specs.declared.Surface.{Surface}
 use Rattle.paper.specs.Ranges.{beginRanges}
 use Rattle.paper.specs.Poc.{in32, msbOf, pocOf}
 use Rattle.paper.specs.Sets.{Sets, Wishes, wishesOf, wishesIn32, inOrder, refsOf, setsOf, marksOf, unmarkedIf}
@@ -62,6 +63,7 @@ use Rattle.session.specs.Laid.{sizesOf, frontOf, frontWords}
 use Rattle.session.specs.Laid as Laid
 use Rattle.session.specs.View.{Memory, memory, sessionIn, sessionOf, Front, frontIn, limitsAt, begunFront}
 use Rattle.session.specs.Said.{Says, Answers, Does}
+use Rattle.session.specs.Target.{fieldsWith}
 use Rattle.format.specs.Reads.{beginFields}
 use Rattle.session.specs.Parts.{HoldsWishes}
 use Rattle.session.specs.Written.{FewMembers, numbersFrom, memberBytes, begunPart, toldBytes}
@@ -78,50 +80,52 @@ use Rattle.session.proofs.Saying.{as-decided, tail-held}
 
 module _ (s : Session) (r : List ℕ) {l : Limits} {h : BeginFields} (p : Passed s r l h) where
   abbrev f : Fields
-  f = fieldsOf r
+  f = fieldsWith (h .surface) r
 
   pub outside : within s f ≡ false → beginOf s f ≡ refused s (replyTo beginKind) 6
+  unfolding fieldsWith
   outside e = begin-6 s f (rw (p .configured)) (p .idle) (rw (p .ranges)) (p .roomy) (p .free) e
 
   pub inside : within s f ≡ true → beginOf s f ≡ begun s f
+  unfolding fieldsWith
   inside e = begin-0 s f (rw (p .configured)) (p .idle) (rw (p .ranges)) (p .roomy) (p .free) e
 
 -- ---- steps 1 and 2
 
-module _ (s : Session) (r : List ℕ) where
+module _ (s : Session) (x : Surface) (r : List ℕ) where
   abbrev flagsNow : Flags
   flagsNow = flagsFrom (s .atStart) (s .ended) (beginFields r)
 
   abbrev prevNow : Prev
   prevNow = prevFrom (flagsNow .over) (s .prev)
 
-  starts-is : startsOver s (fieldsOf r) ≡ flagsNow .over
-  unfolding noRasl fieldsOf
+  starts-is : startsOver s (fieldsWith x r) ≡ flagsNow .over
+  unfolding noRasl fieldsWith fieldsOf
   starts-is = refl
 
-  prev-is : prevFor s (fieldsOf r) ≡ prevNow
+  prev-is : prevFor s (fieldsWith x r) ≡ prevNow
   prev-is = ap (λ (b : Bool). prevFrom b (s .prev)) starts-is
 
-  msb-is : msbOf (modulus (s .limits)) prevNow (beginFields r .lsb) ≡ msb s (fieldsOf r)
-  unfolding msb fieldsOf
+  msb-is : msbOf (modulus (s .limits)) prevNow (beginFields r .lsb) ≡ msb s (fieldsWith x r)
+  unfolding msb fieldsWith fieldsOf
   msb-is = ap (λ (q : Prev). msbOf (modulus (s .limits)) q (beginFields r .lsb)) (sym prev-is)
 
-  poc-is : pocOf (modulus (s .limits)) prevNow (beginFields r .lsb) ≡ poc s (fieldsOf r)
-  unfolding poc fieldsOf
+  poc-is : pocOf (modulus (s .limits)) prevNow (beginFields r .lsb) ≡ poc s (fieldsWith x r)
+  unfolding poc fieldsWith fieldsOf
   poc-is = ap (λ (q : Prev). pocOf (modulus (s .limits)) q (beginFields r .lsb)) (sym prev-is)
 
-  poc-outside : (in32 (msb s (fieldsOf r)) && in32 (poc s (fieldsOf r))) ≡ false → within s (fieldsOf r) ≡ false
+  poc-outside : (in32 (msb s (fieldsWith x r)) && in32 (poc s (fieldsWith x r))) ≡ false → within s (fieldsWith x r) ≡ false
   unfolding within
-  poc-outside e = ap (λ (x : Bool). x && wishesIn32 (wishes s (fieldsOf r))) e
+  poc-outside e = ap (λ (b : Bool). b && wishesIn32 (wishes s (fieldsWith x r))) e
 
 -- ---- step 3
 
-module _ (r : List ℕ) where
-  few-fields : (M : ℕ) → beginRanges M (fieldsOf r) ≡ true → beginFields r .neg + beginFields r .pos + beginFields r .lt ≤ 16
-  few-fields M e = omega (arith, entries-are r, few-entries M (fieldsOf r) e)
+module _ (x : Surface) (r : List ℕ) where
+  few-fields : (M : ℕ) → beginRanges M (fieldsWith x r) ≡ true → beginFields r .neg + beginFields r .pos + beginFields r .lt ≤ 16
+  few-fields M e = omega (arith, entries-are x r, few-entries M (fieldsWith x r) e)
 
 pub few-of : {s : Session} {r : List ℕ} {l : Limits} {h : BeginFields} {t : Start} → Placed s r l h t → h .neg + h .pos + h .lt ≤ 16
-few-of {s} {r} p = subst (λ (x : BeginFields). x .neg + x .pos + x .lt ≤ 16) (sym (p .passed .fields)) (few-fields r (modulus (s .limits)) (p .passed .ranges))
+few-of {s} {r} {h = h} p = subst (λ (x : BeginFields). x .neg + x .pos + x .lt ≤ 16) (sym (p .passed .fields)) (few-fields (h .surface) r (modulus (s .limits)) (p .passed .ranges))
 
 -- ---- the reply: the members of the sets in the paper's order
 
@@ -165,15 +169,15 @@ refs-held {us} {vs} {x} {y} xs l h e =
 
 -- ---- what the stages of the code are in the paper's words
 
-record FlagsAre (s : Session) (r : List ℕ) (t : Start) : Type 0 where
-  rasl : t .flags .rasl ≡ noRasl s (fieldsOf r)
-  output : t .flags .output ≡ outputFlag s (fieldsOf r)
-  valid : t .flags .valid ≡ validPrev (fieldsOf r .nal) (fieldsOf r .tid)
-  prior : t .flags .prior ≡ noPrior s (fieldsOf r)
-  over : t .flags .over ≡ startsOver s (fieldsOf r)
+record FlagsAre (s : Session) (f : Fields) (t : Start) : Type 0 where
+  rasl : t .flags .rasl ≡ noRasl s f
+  output : t .flags .output ≡ outputFlag s f
+  valid : t .flags .valid ≡ validPrev (f .nal) (f .tid)
+  prior : t .flags .prior ≡ noPrior s f
+  over : t .flags .over ≡ startsOver s f
 
-flags-are : (s : Session) (r : List ℕ) {l : Limits} (h : BeginFields) (t : Start) → Placed s r l h t → FlagsAre s r t
-unfolding noRasl outputFlag noPrior fieldsOf
+flags-are : (s : Session) (r : List ℕ) {l : Limits} (h : BeginFields) (t : Start) → Placed s r l h t → FlagsAre s (fieldsWith (h .surface) r) t
+unfolding noRasl outputFlag noPrior fieldsWith fieldsOf
 flags-are s r h t p =
     let e : t .flags ≡ flagsFrom (s .atStart) (s .ended) (beginFields r) = p .flags ∙ ap (flagsFrom (s .atStart) (s .ended)) (p .passed .fields) in
     record {
@@ -189,7 +193,7 @@ module _ (s : Session) (r : List ℕ) {l : Limits} (h : BeginFields) (t : Start)
   M = modulus (s .limits)
 
   abbrev g : Fields
-  g = fieldsOf r
+  g = fieldsWith (h .surface) r
 
   abbrev asked : Wishes
   asked = wishesIn ps hs (h .neg) (h .pos) (h .lt)
@@ -197,7 +201,7 @@ module _ (s : Session) (r : List ℕ) {l : Limits} (h : BeginFields) (t : Start)
   abbrev old : List Picture
   old = unmarkedIf (t .flags .over) (s .store)
 
-  same-flags : FlagsAre s r t
+  same-flags : FlagsAre s g t
   same-flags = flags-are s r h t (q .placed)
 
   marks-are : marksOf M old asked ≡ markedStore s g
@@ -215,11 +219,11 @@ module _ (s : Session) (r : List ℕ) {l : Limits} (h : BeginFields) (t : Start)
       ∙ ap (λ (b : Bool). beforeDecoding (startsOver s g && not (s .ended)) b (s .limits) (markedStore s g)) (same-flags .prior)
 
   current-is : currentFrom (s .next) h t ≡ begunCurrent s g
-  unfolding begunCurrent fieldsOf
+  unfolding begunCurrent fieldsWith fieldsOf
   current-is =
       let k = q .placed in
       ap (λ (x : BeginFields). currentFrom (s .next) x t) (k .passed .fields)
-      ∙ (λ i. record { serial = aSerial (s .next); surface = beginFields r .surface; poc = k .poc i; lsb = beginFields r .lsb; msb = k .msb i; output = same-flags .output i; valid = same-flags .valid i })
+      ∙ (λ i. record { serial = aSerial (s .next); surface = h .surface; poc = k .poc i; lsb = beginFields r .lsb; msb = k .msb i; output = same-flags .output i; valid = same-flags .valid i })
 
   told-is : toldBytes (toldFrom (s .next) t) ≡ toldBytes (record { poc = poc s g; flags = flagsByte (begunOf s g); serial = aSerial (s .next) })
   told-is =
@@ -263,7 +267,7 @@ module _ (m : Memory) (r : List ℕ) {l : Limits} (h : BeginFields) (t : Start) 
   s = sessionIn m
 
   abbrev fs : Fields
-  fs = fieldsOf r
+  fs = fieldsWith (h .surface) r
 
   derived : Derives (modulus (limitsAt (m .front))) (unmarkedIf (t .flags .over) (stored (m .store))) (wishesIn ps hs (h .neg) (h .pos) (h .lt)) y
   unfolding frontIn
@@ -346,19 +350,19 @@ fits-back z e = toZ-ofZ (record { sfits = ltb-true (mag z) (2 ^ 31) e })
 
 -- the wishes that were read are the paper's, or one is outside as the paper's is
 module _ (s : Session) (r : List ℕ) {l : Limits} (h : BeginFields) (t : Start) (p : Placed s r l h t) {b : Bool} {ps : List ℤ} {hs : List ℕ}
-    (k : HoldsWishes (wishesOf (modulus l) (toZ w32 (ofZ w32 (t .poc))) (fieldsOf r)) (h .neg) (h .pos) (h .lt) b ps hs) where
-  asked-is : HoldsWishes (wishes s (fieldsOf r)) (h .neg) (h .pos) (h .lt) b ps hs
+    (k : HoldsWishes (wishesOf (modulus l) (toZ w32 (ofZ w32 (t .poc))) (fieldsWith (h .surface) r)) (h .neg) (h .pos) (h .lt) b ps hs) where
+  asked-is : HoldsWishes (wishes s (fieldsWith (h .surface) r)) (h .neg) (h .pos) (h .lt) b ps hs
   asked-is =
-      let z : toZ w32 (ofZ w32 (t .poc)) ≡ poc s (fieldsOf r) = fits-back (t .poc) (right (in32 (t .msb)) (in32 (t .poc)) (p .inside)) ∙ p .poc in
-      subst (λ (w : Wishes). HoldsWishes w (h .neg) (h .pos) (h .lt) b ps hs) (λ i. wishesOf (modulus (p .passed .limits i)) (z i) (fieldsOf r)) k
+      let z : toZ w32 (ofZ w32 (t .poc)) ≡ poc s (fieldsWith (h .surface) r) = fits-back (t .poc) (right (in32 (t .msb)) (in32 (t .poc)) (p .inside)) ∙ p .poc in
+      subst (λ (w : Wishes). HoldsWishes w (h .neg) (h .pos) (h .lt) b ps hs) (λ i. wishesOf (modulus (p .passed .limits i)) (z i) (fieldsWith (h .surface) r)) k
 
-  within-is : within s (fieldsOf r) ≡ b
+  within-is : within s (fieldsWith (h .surface) r) ≡ b
   unfolding within
   within-is =
-      let m : (in32 (msb s (fieldsOf r)) && in32 (poc s (fieldsOf r))) ≡ true = sym (λ i. in32 (p .msb i) && in32 (p .poc i)) ∙ p .inside in
+      let m : (in32 (msb s (fieldsWith (h .surface) r)) && in32 (poc s (fieldsWith (h .surface) r))) ≡ true = sym (λ i. in32 (p .msb i) && in32 (p .poc i)) ∙ p .inside in
       rw m (sym (asked-is .inside))
 
-  pub wishes-outside : not b ≡ true → within s (fieldsOf r) ≡ false
+  pub wishes-outside : not b ≡ true → within s (fieldsWith (h .surface) r) ≡ false
   wishes-outside n = within-is ∙ not-true b n
 
   pub wished : not b ≡ false → Wished s r l h t ps hs
@@ -371,22 +375,22 @@ pub record Counted (s : Session) (h : BeginFields) (k : Flags) (x : Poc) : Type 
 
 -- the POC that was derived is the paper's, or outside as the paper's is
 module _ {s : Session} {r : List ℕ} {l : Limits} {h : BeginFields} {k : Flags} {x : Poc} (w : Passed s r l h) (o : Counted s h k x) where
-  answer-is : x ≡ pocAnswer (modulus (s .limits)) (prevNow s r) (beginFields r .lsb)
+  answer-is : x ≡ pocAnswer (modulus (s .limits)) (prevNow s (h .surface) r) (beginFields r .lsb)
   answer-is =
-      let f : k ≡ flagsNow s r = o .flags ∙ ap (flagsFrom (s .atStart) (s .ended)) (w .fields) in
+      let f : k ≡ flagsNow s (h .surface) r = o .flags ∙ ap (flagsFrom (s .atStart) (s .ended)) (w .fields) in
       o .poc ∙ (λ i. pocAnswer (modulus (s .limits)) (prevFrom (f i .over) (s .prev)) (w .fields i .lsb))
 
-  pub no-poc : x ≡ A.Outside → within s (fieldsOf r) ≡ false
-  no-poc e = poc-outside s r (sym (λ i. in32 (msb-is s r i) && in32 (poc-is s r i)) ∙ poc-out (modulus (s .limits)) (prevNow s r) (beginFields r .lsb) (sym answer-is ∙ e))
+  pub no-poc : x ≡ A.Outside → within s (fieldsWith (h .surface) r) ≡ false
+  no-poc e = poc-outside s (h .surface) r (sym (λ i. in32 (msb-is s (h .surface) r i) && in32 (poc-is s (h .surface) r i)) ∙ poc-out (modulus (s .limits)) (prevNow s (h .surface) r) (beginFields r .lsb) (sym answer-is ∙ e))
 
   placed-at : (m p : ℤ) → x ≡ A.Val m p → Placed s r l h (record { flags = k; msb = m; poc = p })
   placed-at m p e =
-      let v = poc-val (modulus (s .limits)) (prevNow s r) (beginFields r .lsb) m p (sym answer-is ∙ e) in
+      let v = poc-val (modulus (s .limits)) (prevNow s (h .surface) r) (beginFields r .lsb) m p (sym answer-is ∙ e) in
       record {
         passed = w;
         flags = o .flags;
-        msb = v .0 ∙ msb-is s r;
-        poc = v .1 ∙ poc-is s r;
+        msb = v .0 ∙ msb-is s (h .surface) r;
+        poc = v .1 ∙ poc-is s (h .surface) r;
         inside = (λ i. in32 (v .0 i) && in32 (v .1 i)) ∙ v .2;
       }
 

@@ -1,14 +1,13 @@
 -- Read this first. What is proved of the code: any two results that the contract of `step` permits are equal in the answer, in the buffer and in the session that
 -- the memory is, and, from memory in normal form, in every word; a run of calls views as the paper's run; so demand 3, what a refusal leaves and writes, and the invariants of all sessions hold of the code.
-use Prim.Native.Nat.{ℕ, suc, _≤_, _<_}
+use Prim.Native.Nat.{ℕ, _≤_, _<_}
 use mathlib.Core.Path.{_≡_, refl, sym, ap, ap₂, _∙_, subst}
 use mathlib.Core.List.{List, [], _∷_, _++_}
-use mathlib.Core.Bool.{true}
 use native.Mathlib.Omega.{arith}
-use lib.ListN.{length, getD, take, drop}
+use lib.ListN.{length, take, drop}
 use lib.Seq.{take-append-seam}
 use lib.Dec.{ltb}
-use borrow.Author.Tests.{ltb-true, ltb-false, lt-ltb}
+use borrow.Author.Tests.{ltb-true, ltb-false}
 use Rattle.wire.specs.Bytes.{over}
 use Rattle.paper.specs.Words.{allB}
 use Rattle.paper.specs.Numbers.{bytes16, replyLimit}
@@ -39,15 +38,19 @@ use Rattle.session.proofs.Memories.{sizeOf, members-few, fronts-same, m
 pub determined : {m : Memory} {r before : List ℕ} {a b : Answer} {m1 m2 : Memory} {x y : List ℕ} → Permitted m r before a m1 x → Permitted m r before b m2 y → (a ≡ b) × (x ≡ y) × (sessionIn m1 ≡ sessionIn m2)
 determined p q = (p .answer ∙ sym (q .answer), p .bytes ∙ sym (q .bytes), p .next ∙ sym (q .next))
 
+-- two memories in their normal form that are the session s, in which the run of the sets is xs behind its members, are equal in every word
+pub same-words : {m1 m2 : Memory} (s : P.Session) (xs : List ℕ) → sessionIn m1 ≡ s → sessionIn m2 ≡ s → NormalMemory m1 → NormalMemory m2
+    → ((i : ℕ) → length (allRefs (s .refs)) ≤ i → word (m1 .sets) i ≡ word xs i) → ((i : ℕ) → length (allRefs (s .refs)) ≤ i → word (m2 .sets) i ≡ word xs i)
+    → (m1 .front ≡ m2 .front) × ((i : ℕ) → word (m1 .sets) i ≡ word (m2 .sets) i) × ((j : ℕ) → j < 97 → word (m1 .store) j ≡ word (m2 .store) j)
+same-words {m1} {m2} s xs e1 e2 n1 n2 f g =
+    let e = e1 ∙ sym e2 in
+    let few : length (allRefs (s .refs)) ≤ sizeOf m1 = subst (λ (v : P.Session). length (allRefs (v .refs)) ≤ sizeOf m1) e1 (members-few m1) in
+    (fronts-same n1 n2 e, (λ i. split (ltb i (sizeOf m1)) (λ t. members-same n1 n2 e i (ltb-true i (sizeOf m1) t)) (λ t. let le : sizeOf m1 ≤ i = ltb-false i (sizeOf m1) t in f i (omega arith) ∙ sym (g i (omega arith)))), stores-same n1 n2 e)
+
 -- and, from memory in its normal form, in every word
 pub determined-words : {m : Memory} {r before : List ℕ} {a b : Answer} {m1 m2 : Memory} {x y : List ℕ} → Permitted m r before a m1 x → Permitted m r before b m2 y → NormalMemory m
     → (m1 .front ≡ m2 .front) × ((i : ℕ) → word (m1 .sets) i ≡ word (m2 .sets) i) × ((j : ℕ) → j < 97 → word (m1 .store) j ≡ word (m2 .store) j)
-determined-words {m} {r} {before} {m1 = m1} {m2} p q n =
-    let e = p .next ∙ sym (q .next) in
-    let n1 = p .normal n in
-    let n2 = q .normal n in
-    let few : length (allRefs (stepOf (sessionIn m) r (length before) .next .refs)) ≤ sizeOf m1 = subst (λ (v : P.Session). length (allRefs (v .refs)) ≤ sizeOf m1) (p .next) (members-few m1) in
-    (fronts-same n1 n2 e, (λ i. split (ltb i (sizeOf m1)) (λ t. members-same n1 n2 e i (ltb-true i (sizeOf m1) t)) (λ t. let le : sizeOf m1 ≤ i = ltb-false i (sizeOf m1) t in p .sets i (omega arith) ∙ sym (q .sets i (omega arith)))), stores-same n1 n2 e)
+determined-words {m} {r} {before} p q n = same-words (stepOf (sessionIn m) r (length before) .next) (m .sets) (p .next) (q .next) (p .normal n) (q .normal n) (p .sets) (q .sets)
 
 -- ---- one call, on memory m
 
@@ -121,12 +124,6 @@ run-normal m [] m′ e n = subst NormalMemory e n
 run-normal m (x ∷ xs) m′ h n = run-normal (x .left) xs m′ (h .1) (h .0 .normal n)
 
 -- ---- records are bytes
-
--- A record is lent to `step` as `&[u8]`, and of a slice of u8 the kit knows that each element is below 256 (`shared-slice-known`): so it is a list of bytes
-pub lent-bytes : (r : List ℕ) → ((k : ℕ) → getD r k 0 < 256) → allB (λ (b : ℕ). ltb b 256) r ≡ true
-unfolding allB
-lent-bytes [] h = refl
-lent-bytes (b ∷ r) h = both (lt-ltb b 256 (h 0)) (lent-bytes r (λ k. h (suc k)))
 
 -- where all records of the calls are bytes, those that were answered are
 answered-bytes : (xs : List Called) → Bytes (saidIn xs) → Bytes (answeredOf (callsOf xs))

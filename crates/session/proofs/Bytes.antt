@@ -156,9 +156,9 @@ framed-last {n = n} {d1 = d1} d b kind v h w =
     }
 
 -- six bytes say no
-pub refused-says : {n r : ℕ} {d' : List ℕ} (kind : ℕ) (why : Refusal) (d : List ℕ) → n ≡ numberOf why → Run d 0 (bytes16 2 ++ bytes16 kind ++ bytes16 n) r d' → 6 ≤ length d
-    → Refuses kind (numberOf why) d (record { number = n; len = r }) d'
-refused-says kind why d e w h =
+pub refused-says : {n r : ℕ} {d' : List ℕ} (kind m : ℕ) (d : List ℕ) → n ≡ m → Run d 0 (bytes16 2 ++ bytes16 kind ++ bytes16 n) r d' → 6 ≤ length d
+    → Refuses kind m d (record { number = n; len = r }) d'
+refused-says kind m d e w h =
     record { answer = rw (e, w .0); bytes = rw e at (w .1 ∙ sets-over (bytes16 2 ++ bytes16 kind ++ bytes16 _) d h) }
 
 -- a tail by its runs, and its room

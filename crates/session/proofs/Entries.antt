@@ -14,6 +14,7 @@ use Rattle.paper.specs.Words.{allB, table}
 use Rattle.paper.specs.Numbers.{u8, u16}
 use Rattle.paper.specs.Nal.{taken, irap, idr}
 use Rattle.paper.specs.Records.{fieldsOf, shortAt, longAt}
+use Rattle.paper.specs.declared.Surface.{Surface}
 use Rattle.paper.specs.Ranges.{falling, rising, longOk, entriesOf, beginRanges}
 use Rattle.paper.proofs.Bools.{left, right, split}
 use Rattle.paper.proofs.Fits.{table-length}
@@ -21,6 +22,7 @@ use Rattle.derivation.specs.FieldRanges.{fieldRanges}
 use Rattle.derivation.proofs.Splitting.{ranges-split}
 use Rattle.format.specs.declared.records.BeginFields.{BeginFields}
 use Rattle.format.specs.Reads.{beginFields}
+use Rattle.session.specs.Target.{fieldsWith, beginWith}
 
 -- ---- tests of a run of entries
 -- a test of the first n entries that asks one thing more for each entry
@@ -132,16 +134,16 @@ abbrev pub posIn : List ℕ → BeginFields → Bool
 posIn r h = rising (pos 0) (table (shortAt r (16 + 5 * h .neg)) (h .pos))
 
 -- as many entries as the counts say
-pub entries-are : (r : List ℕ) → entriesOf (fieldsOf r) ≡ u8 r 13 + u8 r 14 + u8 r 15
-unfolding fieldsOf
-entries-are r =
+pub entries-are : (x : Surface) (r : List ℕ) → entriesOf (fieldsWith x r) ≡ u8 r 13 + u8 r 14 + u8 r 15
+unfolding fieldsWith fieldsOf
+entries-are x r =
     rw (table-length (shortAt r 16) (u8 r 13), table-length (shortAt r (16 + 5 * u8 r 13)) (u8 r 14), table-length (longAt r (16 + 5 * (u8 r 13 + u8 r 14))) (u8 r 15))
 
-in-parts : (M : ℕ) (r : List ℕ) → beginRanges M (fieldsOf r) ≡ (fieldsIn M (beginFields r) && (longsIn M r (beginFields r) && (negIn r (beginFields r) && posIn r (beginFields r))))
-unfolding fieldsOf
-in-parts M r =
-    ranges-split M (fieldsOf r)
-    ∙ ap (λ (n : ℕ). fieldRanges M (u8 r 4) (u8 r 5) (u8 r 6) (u16 r 7) n && (longsIn M r (beginFields r) && (negIn r (beginFields r) && posIn r (beginFields r)))) (entries-are r)
+in-parts : (M : ℕ) (x : Surface) (r : List ℕ) → beginRanges M (fieldsWith x r) ≡ (fieldsIn M (beginFields r) && (longsIn M r (beginFields r) && (negIn r (beginFields r) && posIn r (beginFields r))))
+unfolding fieldsWith fieldsOf
+in-parts M x r =
+    ranges-split M (fieldsWith x r)
+    ∙ ap (λ (n : ℕ). fieldRanges M (u8 r 4) (u8 r 5) (u8 r 6) (u16 r 7) n && (longsIn M r (beginFields r) && (negIn r (beginFields r) && posIn r (beginFields r)))) (entries-are x r)
 
 -- fields in range have at most 16 entries behind them
 fields-few : (M nal tid flags lsb n : ℕ) → fieldRanges M nal tid flags lsb n ≡ true → n ≤ 16
@@ -151,11 +153,11 @@ fields-few M nal tid flags lsb n e =
     (right (taken nal && leb tid 6 && (not (irap nal) || eqb tid 0) && ltb flags 4 && ltb lsb M) (leb n 16)
     (left (taken nal && leb tid 6 && (not (irap nal) || eqb tid 0) && ltb flags 4 && ltb lsb M && leb n 16) (not (idr nal) || (eqb lsb 0 && eqb n 0)) e))
 
-module _ (M : ℕ) (r : List ℕ) {h : BeginFields} {b : Bool} (read : h ≡ beginFields r) (is : b ≡ fieldsIn M h) where
-  pub begin-out : not b ≡ true → false ≡ beginRanges M (fieldsOf r)
+module _ (M : ℕ) (r : List ℕ) {h : BeginFields} {b : Bool} (read : h ≡ beginWith (h .surface) r) (is : b ≡ fieldsIn M h) where
+  pub begin-out : not b ≡ true → false ≡ beginRanges M (fieldsWith (h .surface) r)
   begin-out e =
       let k : fieldsIn M (beginFields r) ≡ false = sym (ap (fieldsIn M) read) ∙ sym is ∙ not-true b e in
-      sym (in-parts M r ∙ ap (λ (x : Bool). x && (longsIn M r (beginFields r) && (negIn r (beginFields r) && posIn r (beginFields r)))) k)
+      sym (in-parts M (h .surface) r ∙ ap (λ (x : Bool). x && (longsIn M r (beginFields r) && (negIn r (beginFields r) && posIn r (beginFields r)))) k)
 
   module _ (e : not b ≡ false) where
     fields-in : fieldsIn M h ≡ true
@@ -164,7 +166,7 @@ module _ (M : ℕ) (r : List ℕ) {h : BeginFields} {b : Bool} (read : h ≡ beg
     pub begin-few : h .neg + h .pos + h .lt ≤ 16
     begin-few = fields-few M (h .nal) (h .tid) (h .flags) (h .lsb) (h .neg + h .pos + h .lt) fields-in
 
-    pub begin-on : {l n p : Bool} → l ≡ longsIn M r h → n ≡ negIn r h → p ≡ posIn r h → (l && (n && p)) ≡ beginRanges M (fieldsOf r)
+    pub begin-on : {l n p : Bool} → l ≡ longsIn M r h → n ≡ negIn r h → p ≡ posIn r h → (l && (n && p)) ≡ beginRanges M (fieldsWith (h .surface) r)
     begin-on x y z =
         ap₂ (λ (u v : Bool). u && v) x (ap₂ (λ (u v : Bool). u && v) y z)
-        ∙ sym (in-parts M r ∙ ap (λ (g : BeginFields). fieldsIn M g && (longsIn M r g && (negIn r g && posIn r g))) (sym read) ∙ ap (λ (u : Bool). u && (longsIn M r h && (negIn r h && posIn r h))) fields-in)
+        ∙ sym (in-parts M (h .surface) r ∙ ap (λ (g : BeginFields). fieldsIn M g && (longsIn M r g && (negIn r g && posIn r g))) (sym read) ∙ ap (λ (u : Bool). u && (longsIn M r h && (negIn r h && posIn r h))) fields-in)

@@ -5,6 +5,7 @@ pub mod Fronts
 pub mod Slicing
 pub mod Wishing
 pub mod Saying
+pub mod Targets
 pub mod Begins
 pub mod Steps
 pub mod Memories

@@ -1,6 +1,6 @@
 -- One call: number 14, number 13, or what the record's kind says, as the paper's `stepOf` has them.
 use Prim.Native.Nat.{ℕ, suc, _+_, _≤_, _<_}
-use mathlib.Core.Path.{_≡_, refl, sym, ap, _∙_, subst}
+use mathlib.Core.Path.{_≡_, refl, sym, ap, ap₂, _∙_, subst}
 use mathlib.Core.List.{List}
 use mathlib.Core.Bool.{Bool, true, false, cond, _&&_}
 use native.Mathlib.Omega.{arith}
@@ -11,6 +11,7 @@ use Rattle.wire.specs.Bytes.{over}
 use Rattle.paper.specs.Kinds.{configureKind, beginKind, listsKind, finishKind, abandonKind, replyTo, malformedReply}
 use Rattle.paper.specs.declared.Now.{Now}
 use Rattle.paper.specs.declared.Now.the-variants as Now
+use Rattle.paper.specs.Numbers.{aSurface}
 use Rattle.paper.specs.Records.{Slice, kindOf, lengthOf, bodyOk, wellFormed, limitsOf, fieldsOf, sliceOf}
 use Rattle.paper.specs.State.{onNow, allRefs}
 use Rattle.paper.specs.State as P
@@ -22,6 +23,9 @@ use Rattle.session.specs.declared.Answer.{Answer}
 use Rattle.session.specs.View.{Memory, sessionIn}
 use Rattle.format.specs.Reads.{kindIn}
 use Rattle.session.specs.Said.{Answers, Does, WellFormed, Permitted}
+use Rattle.session.specs.declared.Target.{Target}
+use Rattle.session.specs.Target.{isBegin, withSurface, takenAs, fieldsWith, fieldsAt}
+use Rattle.session.proofs.Targets.{begin-formed, begin-kind, with-begin, with-fields, FitTarget, taken-other, taken-begin, taken-fields}
 
 -- ---- the kind that was read
 
@@ -65,7 +69,7 @@ malformed {n} r e n1 n2 n3 n4 n5 n6 n7 n8 =
 -- ---- what is decided, by the kind
 
 module _ (v : P.Session) (r : List ℕ) where
-  pub decides-13 : wellFormed r ≡ false → decideOf v r ≡ refused v malformedReply 13
+  decides-13 : wellFormed r ≡ false → decideOf v r ≡ refused v malformedReply 13
   unfolding decideOf
   decides-13 e = ap (λ (b : Bool). cond b (byKind v r) (refused v malformedReply 13)) e
 
@@ -88,6 +92,16 @@ module _ (v : P.Session) (r : List ℕ) where
   decides : (k : ℕ) → WellFormed k r → decideOf v r ≡ arm k
   unfolding byKind
   decides k w = by-kind w ∙ ap arm (w .kind)
+
+-- a well-formed begin: by its fields; with a surface that was chosen, by its fields with that one; and with its target, by the fields that this says
+pub begin-decides : (v : P.Session) (r : List ℕ) → isBegin r ≡ true → decideOf v r ≡ beginOf v (fieldsOf r)
+begin-decides v r is = decides v r 2 (record { formed = begin-formed r is; kind = begin-kind r is })
+
+pub with-decides : (v : P.Session) (x : ℕ) (r : List ℕ) → isBegin r ≡ true → x < 4294967296 → decideOf v (withSurface x r) ≡ beginOf v (fieldsWith (aSurface x) r)
+with-decides v x r is fits = begin-decides v (withSurface x r) (with-begin x r ∙ is) ∙ ap (beginOf v) (with-fields x r is fits)
+
+taken-decides : (v : P.Session) (t : Target) (r : List ℕ) → FitTarget t → isBegin r ≡ true → decideOf v (takenAs t r) ≡ beginOf v (fieldsAt t r)
+taken-decides v t r f is = begin-decides v (takenAs t r) (taken-begin t r ∙ is) ∙ ap (beginOf v) (taken-fields t r f is)
 
 -- ---- lists change nothing
 
@@ -130,9 +144,24 @@ permitted {m} {r} {before} d room e h =
       sets = λ i le. h .sets i (subst (λ (y : Result). length (allRefs (y .next .refs)) ≤ i) (sym x) le);
     }
 
--- a record of the kind that was read
-pub goes : {m : Memory} {r before : List ℕ} {a : Answer} {m′ : Memory} {after : List ℕ} {n : ℕ} (k : ℕ) → 512 ≤ length before → n ≡ kindIn r → n ≡ suc k → Does m (arm (sessionIn m) r (suc k)) before a m′ after → Permitted m r before a m′ after
-goes {m} {r} k room e f h = permitted (arm (sessionIn m) r (suc k)) room (decides (sessionIn m) r (suc k) (formed k r e f)) h
+-- whether a record is a begin, by its kind
+begins : {k : ℕ} (r : List ℕ) → WellFormed k r → isBegin r ≡ eqb k beginKind
+begins r w = ap₂ (λ (b : Bool) (n : ℕ). b && eqb n beginKind) (w .formed) (w .kind)
+
+module _ {m : Memory} {before : List ℕ} {a : Answer} {m′ : Memory} {after : List ℕ} {n : ℕ} (t : Target) (r : List ℕ) (room : 512 ≤ length before) (read : n ≡ kindIn r) where
+  -- a record that is no begin is answered as it is
+  as-it-is : (d : Decided) → isBegin r ≡ false → decideOf (sessionIn m) r ≡ d → Does m d before a m′ after → Permitted m (takenAs t r) before a m′ after
+  as-it-is d o e h = permitted d room (ap (decideOf (sessionIn m)) (taken-other t r o) ∙ e) h
+
+  pub goes-not : wellFormed r ≡ false → Does m (refused (sessionIn m) malformedReply 13) before a m′ after → Permitted m (takenAs t r) before a m′ after
+  goes-not w h = as-it-is (refused (sessionIn m) malformedReply 13) (ap (λ (b : Bool). b && eqb (kindOf r) beginKind) w) (decides-13 (sessionIn m) r w) h
+
+  -- a record of the kind that was read, which is no begin, and a begin
+  pub goes : (k : ℕ) → eqb (suc k) beginKind ≡ false → n ≡ suc k → Does m (arm (sessionIn m) r (suc k)) before a m′ after → Permitted m (takenAs t r) before a m′ after
+  goes k o f h = let w = formed k r read f in as-it-is (arm (sessionIn m) r (suc k)) (begins r w ∙ o) (decides (sessionIn m) r (suc k) w) h
+
+  pub goes-begin : FitTarget t → n ≡ beginKind → Does m (beginOf (sessionIn m) (fieldsAt t r)) before a m′ after → Permitted m (takenAs t r) before a m′ after
+  goes-begin fits f h = permitted (beginOf (sessionIn m) (fieldsAt t r)) room (taken-decides (sessionIn m) t r fits (begins r (formed 1 r read f))) h
 
 pub no-room : {m : Memory} {r before : List ℕ} {n : ℕ} → n ≡ 14 → length before < 512 → Permitted m r before (record { number = n; len = 0 }) m before
 unfolding over

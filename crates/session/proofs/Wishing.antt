@@ -20,7 +20,7 @@ use Rattle.derivation.specs.declared.wishes.Wanted.the-variants as W
 use Rattle.derivation.specs.Answers.{wantedOf}
 use Rattle.format.specs.declared.records.BeginFields.{BeginFields}
 use Rattle.store.specs.Runs.{wishAt, wishesAt, wishesIn}
-use Rattle.format.specs.Reads.{beginFields}
+use Rattle.session.specs.Target.{fieldsWith, beginWith}
 use Rattle.session.specs.Parts.{shortsAt, longsAt, isWanted, Wants, WantsAll, HoldsWishes}
 use Rattle.session.proofs.Entries.{all-both, all-more}
 use Rattle.store.proofs.StoreWords.{table-more, table-same, table-next, table-join}
@@ -143,8 +143,8 @@ apart {A} {xs} {ys} {us} {vs} e l =
 abbrev askedBy : ℕ → ℤ → List ℕ → BeginFields → Wishes
 askedBy M p r h = record { neg = shortsAt p r 16 (h .neg); pos = shortsAt p r (16 + 5 * h .neg) (h .pos); lt = longsAt M p r (16 + 5 * (h .neg + h .pos)) (h .lt) }
 
-asked-is : (M : ℕ) (p : ℤ) (r : List ℕ) (h : BeginFields) → h ≡ beginFields r → wishesOf M p (fieldsOf r) ≡ askedBy M p r h
-unfolding wishesOf fieldsOf
+asked-is : (M : ℕ) (p : ℤ) (r : List ℕ) (h : BeginFields) → h ≡ beginWith (h .surface) r → wishesOf M p (fieldsWith (h .surface) r) ≡ askedBy M p r h
+unfolding wishesOf fieldsWith fieldsOf
 asked-is M p r h e = ap (askedBy M p r) (sym e)
 
 module _ {ps₀ ps qs : List ℤ} {hs₀ hs gs : List ℕ} {a b : Bool} (M : ℕ) (p : ℤ) (r : List ℕ) (n m l : ℕ) (x : WantsAll (shortsAt p r 16 (n + m)) 0 ps₀ hs₀ a ps hs) (y : WantsAll (longsAt M p r (16 + 5 * (n + m)) l) (n + m) ps hs b qs gs) where
@@ -170,10 +170,10 @@ module _ {ps₀ ps qs : List ℤ} {hs₀ hs gs : List ℕ} {a b : Bool} (M : ℕ
       let lt : wishesAt qs gs (n + m) l ≡ longsAt M p r (16 + 5 * (n + m)) l = rw (longs-long M p r (16 + 5 * (n + m)) l) at (y .items (right a b e)) in
       λ i. record { neg = s .0 i; pos = s .1 i; lt = lt i }
 
-pub holds-wishes : {ps₀ ps qs : List ℤ} {hs₀ hs gs : List ℕ} {a b : Bool} {q : ℤ} {h : BeginFields} (M : ℕ) (p : ℤ) (r : List ℕ) → h ≡ beginFields r → q ≡ p
+pub holds-wishes : {ps₀ ps qs : List ℤ} {hs₀ hs gs : List ℕ} {a b : Bool} {q : ℤ} {h : BeginFields} (M : ℕ) (p : ℤ) (r : List ℕ) → h ≡ beginWith (h .surface) r → q ≡ p
     → WantsAll (shortsAt q r 16 (h .neg + h .pos)) 0 ps₀ hs₀ a ps hs → WantsAll (longsAt M q r (16 + 5 * (h .neg + h .pos)) (h .lt)) (h .neg + h .pos) ps hs b qs gs
-    → HoldsWishes (wishesOf M p (fieldsOf r)) (h .neg) (h .pos) (h .lt) (a && b) qs gs
+    → HoldsWishes (wishesOf M p (fieldsWith (h .surface) r)) (h .neg) (h .pos) (h .lt) (a && b) qs gs
 unfolding wishesIn32
 holds-wishes {q = q} {h = h} M p r e z x y =
-    let k : wishesOf M p (fieldsOf r) ≡ askedBy M q r h = asked-is M p r h e ∙ ap (λ (t : ℤ). askedBy M t r h) (sym z) in
+    let k : wishesOf M p (fieldsWith (h .surface) r) ≡ askedBy M q r h = asked-is M p r h e ∙ ap (λ (t : ℤ). askedBy M t r h) (sym z) in
     rw k (record { inside = both-inside M q r (h .neg) (h .pos) (h .lt) x y; items = both-items M q r (h .neg) (h .pos) (h .lt) x y })

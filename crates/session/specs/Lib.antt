@@ -3,6 +3,7 @@ pub mod FrontPlaces
 pub mod View
 pub mod Laid
 pub mod Said
+pub mod Target
 pub mod Parts
 pub mod Slices
 pub mod Written

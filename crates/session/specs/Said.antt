@@ -1,11 +1,12 @@
 -- What a call answers, writes and leaves.
-use Prim.Native.Nat.{ℕ, _≤_}
+use Prim.Native.Nat.{ℕ, _≤_, _<_}
 use mathlib.Core.Path.{_≡_}
 use mathlib.Core.List.{List, []}
 use lib.ListN.{length}
 use denote.Ref.{RefT, now}
 use denote.Triple.Both.{Both}
 use Rattle.wire.specs.Bytes.{over}
+use Rattle.paper.specs.Numbers.{replyLimit}
 use Rattle.paper.specs.Kinds.{restPlace}
 use Rattle.paper.specs.Records.{kindOf, wellFormed}
 use Rattle.paper.specs.Replies.{bytesOf, framed, tailBytes}
@@ -28,6 +29,11 @@ pub record Says (reply before : List ℕ) (a : Answer) (after : List ℕ) : Type
 pub record Refuses (kind number : ℕ) (before : List ℕ) (a : Answer) (after : List ℕ) : Type 0 where
   pub answer : a ≡ record { number = number; len = restPlace }
   pub bytes : after ≡ over (framed kind number []) before
+
+-- a refusal by a layer above the session: "reply buffer under 512 bytes" is number 14 and writes nothing, else six bytes say the layer's own number
+pub record Declines (kind number : ℕ) (before : List ℕ) (a : Answer) (after : List ℕ) : Type 0 where
+  pub small : length before < replyLimit → (a ≡ record { number = 14; len = 0 }) × (after ≡ before)
+  pub refuses : replyLimit ≤ length before → Refuses kind number before a after
 
 -- the answer and the reply to a record of which d was decided
 pub record Answers (d : Decided) (before : List ℕ) (a : Answer) (after : List ℕ) : Type 0 where

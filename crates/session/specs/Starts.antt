@@ -15,7 +15,6 @@ use Rattle.paper.specs.Words.{anyB}
 use Rattle.paper.specs.Numbers.{bit, flagAt, missing, aSerial}
 use Rattle.paper.specs.Kinds.{beginKind, replyTo}
 use Rattle.paper.specs.State.{isCurrent, modulus}
-use Rattle.paper.specs.Records.{fieldsOf}
 use Rattle.paper.specs.Nal.{irap}
 use Rattle.paper.specs.Ranges.{beginRanges}
 use Rattle.paper.specs.Flags.{noRaslOutput, picOutput, noPriorOutput, validPrev}
@@ -36,9 +35,9 @@ use Rattle.session.specs.declared.replies.Told.{Told}
 use Rattle.session.specs.declared.begin.Flags.{Flags}
 use Rattle.session.specs.declared.begin.Start.{Start}
 use Rattle.session.specs.FrontPlaces.{ENDED, NEXT}
-use Rattle.format.specs.Reads.{beginFields}
 use Rattle.session.specs.View.{limitsAt}
 use Rattle.session.specs.Said.{Says}
+use Rattle.session.specs.Target.{fieldsWith, beginWith}
 use Rattle.session.specs.Written.{begunPart}
 
 abbrev pub flagsFrom : Bool → Bool → BeginFields → Flags
@@ -67,30 +66,30 @@ toldFrom next t = record { poc = t .poc; flags = flagsNumber (t .flags); serial 
 abbrev pub refsFrom : Sizes → Refs
 refsFrom x = record { before = x .before; after = x .after; long = x .long }
 
--- none of 1, 3, 5, 8 and 7, where l are the limits and h the fields of the begin before its entries
+-- none of 1, 3, 5, 8 and 7, where l are the limits and h the fields of the begin before its entries, with the surface that it is to have
 pub record Passed (s : Session) (r : List ℕ) (l : Limits) (h : BeginFields) : Type 0 where
   pub limits : l ≡ s .limits
-  pub fields : h ≡ beginFields r
+  pub fields : h ≡ beginWith (h .surface) r
   pub configured : s .configured ≡ true
   pub idle : isCurrent (s .current) ≡ false
-  pub ranges : beginRanges (modulus (s .limits)) (fieldsOf r) ≡ true
+  pub ranges : beginRanges (modulus (s .limits)) (fieldsWith (h .surface) r) ≡ true
   pub roomy : eqb (s .next) (missing .0) ≡ false
-  pub free : anyB (heldBy (fieldsOf r .surface)) (s .store) ≡ false
+  pub free : anyB (heldBy (h .surface)) (s .store) ≡ false
 
 -- and the flags, the MSB and the POC, which lie in i32
 pub record Placed (s : Session) (r : List ℕ) (l : Limits) (h : BeginFields) (t : Start) : Type 0 where
   pub passed : Passed s r l h
   pub flags : t .flags ≡ flagsFrom (s .atStart) (s .ended) h
-  pub msb : t .msb ≡ Begin.msb s (fieldsOf r)
-  pub poc : t .poc ≡ Begin.poc s (fieldsOf r)
+  pub msb : t .msb ≡ Begin.msb s (fieldsWith (h .surface) r)
+  pub poc : t .poc ≡ Begin.poc s (fieldsWith (h .surface) r)
   pub inside : (in32 (t .msb) && in32 (t .poc)) ≡ true
 
 -- and the wishes, all of which do
 pub record Wished (s : Session) (r : List ℕ) (l : Limits) (h : BeginFields) (t : Start) (ps : List ℤ) (hs : List ℕ) : Type 0 where
   pub placed : Placed s r l h t
-  pub within : within s (fieldsOf r) ≡ true
+  pub within : within s (fieldsWith (h .surface) r) ≡ true
   pub few : h .neg + h .pos + h .lt ≤ 16
-  pub wishes : wishesIn ps hs (h .neg) (h .pos) (h .lt) ≡ wishes s (fieldsOf r)
+  pub wishes : wishesIn ps hs (h .neg) (h .pos) (h .lt) ≡ wishes s (fieldsWith (h .surface) r)
 
 -- step 5 of the pictures that step 4 marked, and the reply, where the two runs of the sets are first and second
 pub record Tells (h : List ℕ) (first second : List Serial) (ps : List Picture) (p : List ℕ) (t : Start) (x : Sizes) (before : List ℕ) (a : Answer) (p′ after : List ℕ) : Type 0 where

@@ -2,6 +2,7 @@
 use crate::Answer;
 use crate::FRONT;
 use crate::Refusal;
+use crate::Target;
 use crate::records;
 use crate::replies;
 use crate::replies::Told;
@@ -23,10 +24,10 @@ ghost use mathlib.Core.Path.{_≡_};
 ghost use mathlib.Core.Bool.{cond};
 ghost use Prim.Native.Nat.{_+_};
 ghost use lib.Dec.{eqb};
-ghost use Rattle.paper.specs.Records.{fieldsOf};
 ghost use Rattle.paper.specs.Step.{beginOf};
 ghost use Rattle.session.specs.View.{memory, sessionIn};
 ghost use Rattle.session.specs.Said.{Calls, Roomy};
+ghost use Rattle.session.specs.Target.{fieldsWith, fieldsAt};
 ghost use Rattle.session.specs.Written.{FewMembers};
 ghost use Rattle.session.specs.Starts.{flagsFrom, flagsNumber, prevFrom, currentFrom, toldFrom, refsFrom};
 ghost use Rattle.session.specs.Starts.{Passed, Placed, Wished};
@@ -151,7 +152,7 @@ fn begun(
 ) -> Answer
     requires { ⌜ Wished (sessionIn (memory (now front) (now sets) (now store))) (now msg) l h t (now pocs) (now hows)
         × Roomy (now reply) ⌝ }
-    ensures { λ r. ⌜ Calls (λ s. beginOf s (fieldsOf (now (msg .entry)))) front sets store reply r ⌝ }
+    ensures { λ r. ⌜ Calls (λ s. beginOf s (fieldsWith (h .surface) (now (msg .entry)))) front sets store reply r ⌝ }
 {
     let f = t.flags;
     let over = f.over;
@@ -189,7 +190,7 @@ fn begin_at(
     reply: &mut [u8],
 ) -> Answer
     requires { ⌜ Placed (sessionIn (memory (now front) (now sets) (now store))) (now msg) l h t × Roomy (now reply) ⌝ }
-    ensures { λ r. ⌜ Calls (λ s. beginOf s (fieldsOf (now (msg .entry)))) front sets store reply r ⌝ }
+    ensures { λ r. ⌜ Calls (λ s. beginOf s (fieldsWith (h .surface) (now (msg .entry)))) front sets store reply r ⌝ }
 {
     let mut pocs = [0i32; Store::CAPACITY];
     let mut hows = [0u8; Store::CAPACITY];
@@ -210,7 +211,7 @@ fn begin_inside(
     reply: &mut [u8],
 ) -> Answer
     requires { ⌜ Passed (sessionIn (memory (now front) (now sets) (now store))) (now msg) l h × Roomy (now reply) ⌝ }
-    ensures { λ r. ⌜ Calls (λ s. beginOf s (fieldsOf (now (msg .entry)))) front sets store reply r ⌝ }
+    ensures { λ r. ⌜ Calls (λ s. beginOf s (fieldsWith (h .surface) (now (msg .entry)))) front sets store reply r ⌝ }
 {
     let q = words::prev_in(front);
     let flags = flags_of(words::is_first(front), words::is_ended(front), h);
@@ -223,17 +224,18 @@ fn begin_inside(
     }
 }
 
-// Begin: refused by the first of "1, 3, 5, 8, 7, 6" that applies. The limits and the fields of the record are read once
-// and handed on.
+// Begin, with the surface that the target says: refused by the first of "1, 3, 5, 8, 7, 6" that applies. The limits and
+// the fields of the record are read once and handed on.
 pub(crate) fn begin(
     front: &mut [u32; FRONT],
     sets: &mut [u32; Store::CAPACITY],
     store: &mut [u32; Store::WORDS],
+    target: Target,
     msg: &[u8],
     reply: &mut [u8],
 ) -> Answer
     requires { ⌜ Roomy (now reply) ⌝ }
-    ensures { λ r. ⌜ Calls (λ s. beginOf s (fieldsOf (now (msg .entry)))) front sets store reply r ⌝ }
+    ensures { λ r. ⌜ Calls (λ s. beginOf s (fieldsAt target (now (msg .entry)))) front sets store reply r ⌝ }
 {
     if !words::is_configured(front) {
         return replies::refuse(reply, kinds::BEGUN, Refusal::Unconfigured);
@@ -242,7 +244,7 @@ pub(crate) fn begin(
         return replies::refuse(reply, kinds::BEGUN, Refusal::Busy);
     }
     let l = words::limits_in(front);
-    let h = format::records::begin_fields(msg);
+    let h = records::begin_fields(target, msg);
     if !records::begin_ranges(msg, h, l.k) {
         return replies::refuse(reply, kinds::BEGUN, Refusal::OutOfRange);
     }

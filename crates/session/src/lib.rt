@@ -14,8 +14,10 @@ ghost use Rattle.paper.specs.State.{fresh as freshSession};
 ghost use Rattle.session.specs.Numbered.{numberOf};
 ghost use Rattle.session.specs.View.{memory, sessionIn};
 ghost use Rattle.session.specs.Laid.{NormalMemory};
-ghost use Rattle.session.specs.Said.{Permitted};
+ghost use Rattle.session.specs.Said.{Permitted, Declines};
+ghost use Rattle.session.specs.Target.{takenAs};
 use format::kinds;
+use paper::Surface;
 use store::Store;
 
 // How many words a session has beside its sets and its store; words.rt says what each of them is.
@@ -83,6 +85,12 @@ pub fn fresh(
     store::forget_all(store);
 }
 
+// The surface of a begin: the one that its record names, or one that the caller chose.
+pub enum Target {
+    Own,
+    Chosen(Surface),
+}
+
 // One call, on a record: refused by 14, then by 13, and else answered by the call that its kind names.
 pub fn step(
     front: &mut [u32; FRONT],
@@ -95,6 +103,24 @@ pub fn step(
         (memory (now (front .entry)) (now (sets .entry)) (now (store .entry))) (now (msg .entry)) (now (reply .entry))
         r (memory (now (front .exit)) (now (sets .exit)) (now (store .exit))) (now (reply .exit)) ⌝ }
 {
+    step_at(front, sets, store, Target::Own, msg, reply)
+}
+
+// The same call, told the surface of a begin: a begin is answered as if its record named that surface, any other
+// record as it is. No copy of the record is made.
+pub fn step_at(
+    front: &mut [u32; FRONT],
+    sets: &mut [u32; Store::CAPACITY],
+    store: &mut [u32; Store::WORDS],
+    target: Target,
+    msg: &[u8],
+    reply: &mut [u8],
+) -> Answer
+    ensures { λ r. ⌜ Permitted
+        (memory (now (front .entry)) (now (sets .entry)) (now (store .entry)))
+        (takenAs target (now (msg .entry))) (now (reply .entry))
+        r (memory (now (front .exit)) (now (sets .exit)) (now (store .exit))) (now (reply .exit)) ⌝ }
+{
     if reply.len() < Store::REPLY {
         return Answer {
             number: number(Refusal::NoRoom),
@@ -103,7 +129,7 @@ pub fn step(
     }
     match format::records::kind_of(msg) {
         kinds::CONFIGURE => calls::configure(front, store, msg, reply),
-        kinds::BEGIN => begin::begin(front, sets, store, msg, reply),
+        kinds::BEGIN => begin::begin(front, sets, store, target, msg, reply),
         kinds::LISTS => lists::lists(front, sets, msg, reply),
         kinds::FINISH => calls::finish(front, store, reply),
         kinds::DRAIN => calls::drain(front, store, reply),
@@ -112,4 +138,19 @@ pub fn step(
         kinds::ABANDON => calls::abandon(front, reply),
         _ => replies::refuse(reply, kinds::MALFORMED, Refusal::Malformed),
     }
+}
+
+// A refusal by a layer above the session, with a number of its own. A buffer that is too small gets 14, and nothing is
+// written.
+pub fn decline(reply: &mut [u8], kind: u16, n: u16) -> Answer
+    ensures { λ r. ⌜ Declines kind n (now (reply .entry)) r (now (reply .exit)) ⌝ }
+{
+    if reply.len() < Store::REPLY {
+        return Answer {
+            number: number(Refusal::NoRoom),
+            len: 0,
+        };
+    }
+    let len = replies::put_head(reply, 2, kind, n);
+    Answer { number: n, len }
 }

@@ -1,4 +1,5 @@
-// A begin record as the derivation takes it: the ranges of its fields, and the wishes of its entries.
+// A begin record as the derivation takes it: its fields, their ranges, and the wishes of its entries.
+use crate::Target;
 use derivation::ranges;
 use derivation::wishes;
 use derivation::wishes::Wanted;
@@ -14,11 +15,25 @@ ghost use lib.ListN.{length};
 ghost use lib.IntN.{pos};
 ghost use Rattle.paper.specs.Words.{allB, table};
 ghost use Rattle.paper.specs.Kinds.{entriesPlace, shortWidth};
-ghost use Rattle.paper.specs.Records.{fieldsOf, shortAt, longAt};
+ghost use Rattle.paper.specs.Records.{shortAt, longAt};
 ghost use Rattle.paper.specs.Ranges.{longOk, falling, rising, beginRanges};
 ghost use Rattle.paper.specs.Sets.{wishesOf};
-ghost use Rattle.format.specs.Reads.{beginFields};
+ghost use Rattle.session.specs.Target.{fieldsWith, beginWith, beginAt};
 ghost use Rattle.session.specs.Parts.{shortsAt, longsAt, Wants, WantsAll, HoldsWishes};
+
+// The fields of a begin before its entries, with the surface that the target says.
+pub(crate) fn begin_fields(target: Target, msg: &[u8]) -> BeginFields
+    ensures { λ r. ⌜ r ≡ beginAt target (now (msg .entry)) ⌝ }
+{
+    let mut h = records::begin_fields(msg);
+    match target {
+        Target::Own => h,
+        Target::Chosen(x) => {
+            h.surface = x;
+            h
+        }
+    }
+}
 
 // Whether the n short-term entries from byte `at` on are in range as negative ones: "Neg deltas −524,288 to −1,
 // strictly falling", "Used bytes 0 or 1".
@@ -76,8 +91,8 @@ fn longs_all(msg: &[u8], k: u8, at: usize, n: usize) -> bool
 
 // Whether every field of a begin is within its range. If one is not, begin is refused by 5.
 pub(crate) fn begin_ranges(msg: &[u8], h: BeginFields, k: u8) -> bool
-    requires { ⌜ h ≡ beginFields (now msg) ⌝ }
-    ensures { λ r. ⌜ r ≡ beginRanges (2 ^ (min k 16)) (fieldsOf (now (msg .entry))) ⌝ }
+    requires { ⌜ h ≡ beginWith (h .surface) (now msg) ⌝ }
+    ensures { λ r. ⌜ r ≡ beginRanges (2 ^ (min k 16)) (fieldsWith (h .surface) (now (msg .entry))) ⌝ }
 {
     let neg = h.neg as usize;
     let pos = h.pos as usize;
@@ -169,8 +184,8 @@ fn want_longs(
     hows: &mut [u8; Store::CAPACITY],
 ) -> bool
     requires { ⌜ from + n ≤ 16 ⌝ }
-    ensures { λ r. ⌜ WantsAll (longsAt (2 ^ (min k 16)) poc (now (msg .entry)) (entriesPlace + shortWidth * from) n) from
-        (now (pocs .entry)) (now (hows .entry)) r (now (pocs .exit)) (now (hows .exit)) ⌝ }
+    ensures { λ r. ⌜ WantsAll (longsAt (2 ^ (min k 16)) poc (now (msg .entry)) (entriesPlace + shortWidth * from) n)
+        from (now (pocs .entry)) (now (hows .entry)) r (now (pocs .exit)) (now (hows .exit)) ⌝ }
 {
     let at = kinds::ENTRIES_PLACE + kinds::SHORT_WIDTH * from;
     let mut inside = true;
@@ -193,8 +208,8 @@ pub(crate) fn wishes(
     pocs: &mut [i32; Store::CAPACITY],
     hows: &mut [u8; Store::CAPACITY],
 ) -> bool
-    requires { ⌜ (h ≡ beginFields (now msg)) × (h .neg + h .pos + h .lt ≤ 16) ⌝ }
-    ensures { λ r. ⌜ HoldsWishes (wishesOf (2 ^ (min k 16)) poc (fieldsOf (now (msg .entry))))
+    requires { ⌜ (h ≡ beginWith (h .surface) (now msg)) × (h .neg + h .pos + h .lt ≤ 16) ⌝ }
+    ensures { λ r. ⌜ HoldsWishes (wishesOf (2 ^ (min k 16)) poc (fieldsWith (h .surface) (now (msg .entry))))
         (h .neg) (h .pos) (h .lt) r (now (pocs .exit)) (now (hows .exit)) ⌝ }
 {
     let shorts = h.neg as usize + h.pos as usize;

@@ -3,21 +3,18 @@ use Prim.Native.Nat.{ℕ}
 use mathlib.Core.Path.{_≡_, refl, sym, ap, ap₂, _∙_}
 use mathlib.Core.List.{List, [], _++_, append-nil, append-assoc}
 use mathlib.Core.Bool.{true, false, not}
-use native.Mathlib.Omega.{arith}
-use lib.Dec.{eqb}
 use lib.ListN.{take}
-use borrow.Author.Tests.{eqb-true, eqb-false, ltb-false}
 use Rattle.paper.specs.Words.{allB}
 use Rattle.paper.specs.declared.Reading.{Reading}
 use Rattle.paper.specs.Reading.{opening, furtherAll}
 use Rattle.paper.proofs.Again.{further-append}
-use Rattle.paper.proofs.Bools.{split, not-both}
+use Rattle.paper.proofs.Bools.{not-both}
 use Rattle.format.specs.Cut.{Parts, sizeOf, joined, isWhole, cut, parts}
 use Rattle.stream.specs.Turns.{through}
 use Rattle.format.proofs.Cutting.{one-cut, joined-on, all-append}
-use Rattle.stream.proofs.Keeping.{unmoved}
+use Rattle.stream.proofs.Keeping.{none-then}
 use Rattle.stream.proofs.Laying.{put-front}
-use Rattle.stream.proofs.Running.{Reached, by-turns}
+use Rattle.stream.proofs.Running.{Reached, waits-or-not, to-the-end}
 use Rattle.show.specs.Stream.{linesOf, numberAfter}
 use Rattle.show.specs.declared.After.{After}
 use Rattle.show.proofs.Lining.{lines-append, number-append}
@@ -37,29 +34,20 @@ none-last r m = rw m
 -- while the run goes on, the lines of the replies that it read
 turn-lines : {st : Reading} {n held : ℕ} {before written after output : List ℕ} {r : After} (t : Turned st n held before written r after output) → r .more ≡ true → take (r .made) output ≡ linesOf st n (t .read)
 turn-lines {st} {n} {held} {before} {r = r} t m =
-    split (eqb (sizeOf (take held before)) 0)
-    (λ e.
-    let z = eqb-true (sizeOf (take held before)) 0 e in
-    turn-reads t z ∙ ap₂ (λ (rs : List (List ℕ)) (l : List ℕ). linesOf st n rs ++ l) (sym (t .reads z .0)) (none-last r m) ∙ append-nil (linesOf st n (t .read)))
-    (λ e. let z = eqb-false (sizeOf (take held before)) 0 e in put-front (t .lines (omega arith) .2))
+    waits-or-not (sizeOf (take held before))
+    (λ z. turn-reads t z ∙ ap₂ (λ (rs : List (List ℕ)) (l : List ℕ). linesOf st n rs ++ l) (sym (t .reads z .0)) (none-last r m) ∙ append-nil (linesOf st n (t .read)))
+    (λ z. put-front (t .lines z .2))
 
 -- a turn that ends the run, and not because of the output, reads
 end-reads : {st : Reading} {n held : ℕ} {before written after output : List ℕ} {r : After} → Turned st n held before written r after output → r .more ≡ false → r .unwritten ≡ false → sizeOf (take held before) ≡ 0
-end-reads {held = held} {before = before} {r = r} t m u =
-    split (eqb (sizeOf (take held before)) 0)
-    (λ e. eqb-true (sizeOf (take held before)) 0 e)
-    (λ e.
-    let z = eqb-false (sizeOf (take held before)) 0 e in
-    let k = t .lines (omega arith) in
-    not-both (r .more) (k .3 ∙ ap not u) m)
+end-reads {held = held} {before = before} {r = r} t m u = waits-or-not (sizeOf (take held before)) (λ z. z) (λ z. not-both (r .more) (t .lines z .3 ∙ ap not u) m)
 
 -- and leaves no whole reply
 end-waits : {st : Reading} {n held : ℕ} {before written after output : List ℕ} {r : After} → Turned st n held before written r after output → sizeOf (take held before) ≡ 0 → r .more ≡ false → sizeOf (take (r .held) after) ≡ 0
 unfolding joined
 end-waits {held = held} {before = before} {after = after} {r = r} t z m =
     let k = t .reads z in
-    let n = ltb-false held (r .held) (sym (k .2) ∙ m) in
-    ap sizeOf (unmoved held (r .held) before after (omega arith) (t .kept ∙ ap (λ (l : List (List ℕ)). joined l ++ take (r .held) after) (k .0))) ∙ z
+    none-then sizeOf held (r .held) before after z (sym (k .2) ∙ m) (t .kept ∙ ap (λ (l : List (List ℕ)). joined l ++ take (r .held) after) (k .0))
 
 -- ---- so far
 
@@ -134,16 +122,9 @@ ended {R} {W} {b} {s} g t m u =
       all-reading g t ∙ ap (λ (x : Parts). furtherAll opening (x .whole)) (sym p),
     )
 
--- while the run goes on, and where it ends because no more is read
-record Told (R W : List ℕ) (s : Stand) : Type 0 where
-  on : s .after .more ≡ true → SoFar R W s
-  end : s .after .more ≡ false → s .after .unwritten ≡ false → Complete R W s
-
-told-none : (s : Stand) → Starts s → Told [] [] s
-told-none s b = record { on = λ _. nothing-seen b; end = λ m u. not-both (s .after .more) (b .2) m }
-
-told-on : (R W : List ℕ) (b s : Stand) → Told R W b → Turns b s → Told (R ++ readIn b s) (W ++ writtenIn b s) s
-told-on R W b s g t = let f = g .on (t .0) in record { on = seen-on f (t .1); end = ended f (t .1) }
+-- where it ends because no more is read
+abbrev End : List ℕ → List ℕ → Stand → Type 0
+End R W s = s .after .unwritten ≡ false → Complete R W s
 
 -- THE WHOLE RUN
 pub shows : (s : Stand) → Reached Starts Turns s → Shows s
@@ -155,5 +136,7 @@ shows s g =
       ran = g .ran;
       read = refl;
       handed = refl;
-      all = by-turns readIn writtenIn Told told-none told-on (g .turns) s (g .ran) .end;
+      all =
+          to-the-end readIn writtenIn (λ (x : Stand). x .after .more) SoFar End (λ x b. (b .2, nothing-seen b)) (λ b x t. t .0) (λ R W b x f t. seen-on f (t .1)) (λ R W b x f t. ended f (t .1))
+          (g .turns) s (g .ran);
     }

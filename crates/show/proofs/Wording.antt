@@ -6,7 +6,7 @@ use mathlib.Core.Bool.{Bool, true, false, cond}
 use native.Mathlib.Omega.{arith}
 use borrow.Author.Tests.{eq-eqb, ne-eqb}
 use lib.Dec.{ltb}
-use lib.ListN.{drop}
+use lib.ListN.{drop, getD}
 use lib.Seq.{drop-drop}
 use mir.Val.{toZ}
 use mir.Syntax.{w32}
@@ -19,7 +19,7 @@ use Rattle.paper.specs.WholeReply.{membersOf, wholeReply}
 use Rattle.stream.specs.Text.{ascii, decimal, integer}
 use Rattle.show.specs.Text.{serialText}
 use Rattle.show.specs.Lists.{named, shortText, longText}
-use Rattle.show.specs.Lines.{kindWord, refusalWord, flagsText, refusedText, doneText, toldText, listedText, replyText, begunAt, damagedText, saidText}
+use Rattle.show.specs.Lines.{kindWord, refusalWords, refusalWord, flagsText, refusedText, doneText, toldText, listedText, replyText, begunAt, damagedText, saidText}
 use Rattle.show.proofs.Places.{u8-drop, u32-drop, serials-at}
 
 -- a kind or a number that has no word of its own
@@ -43,24 +43,27 @@ pub other-reply : (k : ℕ) → (k ≡ replyTo configureKind → ⊥) → (k ≡
 other-reply k h1 h2 h3 h4 h5 h6 h7 h8 =
     other-kind (k - 256) (shifted k 1 (omega arith) h1) (shifted k 2 (omega arith) h2) (shifted k 3 (omega arith) h3) (shifted k 4 (omega arith) h4) (shifted k 5 (omega arith) h5) (shifted k 6 (omega arith) h6) (shifted k 7 (omega arith) h7) (shifted k 8 (omega arith) h8)
 
-pub other-refusal : (n : ℕ) → (n ≡ 1 → ⊥) → (n ≡ 2 → ⊥) → (n ≡ 3 → ⊥) → (n ≡ 4 → ⊥) → (n ≡ 5 → ⊥) → (n ≡ 6 → ⊥) → (n ≡ 7 → ⊥) → (n ≡ 8 → ⊥) → (n ≡ 9 → ⊥) → (n ≡ 10 → ⊥) → (n ≡ 11 → ⊥) → (n ≡ 12 → ⊥) → (n ≡ 13 → ⊥) → (n ≡ 14 → ⊥) → refusalWord n ≡ ascii "unknown"
+other-session : (n : ℕ) → (n ≡ 1 → ⊥) → (n ≡ 2 → ⊥) → (n ≡ 3 → ⊥) → (n ≡ 4 → ⊥) → (n ≡ 5 → ⊥) → (n ≡ 6 → ⊥) → (n ≡ 7 → ⊥) → (n ≡ 8 → ⊥) → (n ≡ 9 → ⊥) → (n ≡ 10 → ⊥) → (n ≡ 11 → ⊥) → (n ≡ 12 → ⊥) → (n ≡ 13 → ⊥) → (n ≡ 14 → ⊥) → getD refusalWords n (ascii "unknown") ≡ ascii "unknown"
+other-session zero h1 h2 h3 h4 h5 h6 h7 h8 h9 h10 h11 h12 h13 h14 = refl
+other-session (suc zero) h1 h2 h3 h4 h5 h6 h7 h8 h9 h10 h11 h12 h13 h14 = absurd (h1 refl)
+other-session (suc (suc zero)) h1 h2 h3 h4 h5 h6 h7 h8 h9 h10 h11 h12 h13 h14 = absurd (h2 refl)
+other-session (suc (suc (suc zero))) h1 h2 h3 h4 h5 h6 h7 h8 h9 h10 h11 h12 h13 h14 = absurd (h3 refl)
+other-session (suc (suc (suc (suc zero)))) h1 h2 h3 h4 h5 h6 h7 h8 h9 h10 h11 h12 h13 h14 = absurd (h4 refl)
+other-session (suc (suc (suc (suc (suc zero))))) h1 h2 h3 h4 h5 h6 h7 h8 h9 h10 h11 h12 h13 h14 = absurd (h5 refl)
+other-session (suc (suc (suc (suc (suc (suc zero)))))) h1 h2 h3 h4 h5 h6 h7 h8 h9 h10 h11 h12 h13 h14 = absurd (h6 refl)
+other-session (suc (suc (suc (suc (suc (suc (suc zero))))))) h1 h2 h3 h4 h5 h6 h7 h8 h9 h10 h11 h12 h13 h14 = absurd (h7 refl)
+other-session (suc (suc (suc (suc (suc (suc (suc (suc zero)))))))) h1 h2 h3 h4 h5 h6 h7 h8 h9 h10 h11 h12 h13 h14 = absurd (h8 refl)
+other-session (suc (suc (suc (suc (suc (suc (suc (suc (suc zero))))))))) h1 h2 h3 h4 h5 h6 h7 h8 h9 h10 h11 h12 h13 h14 = absurd (h9 refl)
+other-session (suc (suc (suc (suc (suc (suc (suc (suc (suc (suc zero)))))))))) h1 h2 h3 h4 h5 h6 h7 h8 h9 h10 h11 h12 h13 h14 = absurd (h10 refl)
+other-session (suc (suc (suc (suc (suc (suc (suc (suc (suc (suc (suc zero))))))))))) h1 h2 h3 h4 h5 h6 h7 h8 h9 h10 h11 h12 h13 h14 = absurd (h11 refl)
+other-session (suc (suc (suc (suc (suc (suc (suc (suc (suc (suc (suc (suc zero)))))))))))) h1 h2 h3 h4 h5 h6 h7 h8 h9 h10 h11 h12 h13 h14 = absurd (h12 refl)
+other-session (suc (suc (suc (suc (suc (suc (suc (suc (suc (suc (suc (suc (suc zero))))))))))))) h1 h2 h3 h4 h5 h6 h7 h8 h9 h10 h11 h12 h13 h14 = absurd (h13 refl)
+other-session (suc (suc (suc (suc (suc (suc (suc (suc (suc (suc (suc (suc (suc (suc zero)))))))))))))) h1 h2 h3 h4 h5 h6 h7 h8 h9 h10 h11 h12 h13 h14 = absurd (h14 refl)
+other-session (suc (suc (suc (suc (suc (suc (suc (suc (suc (suc (suc (suc (suc (suc (suc n))))))))))))))) h1 h2 h3 h4 h5 h6 h7 h8 h9 h10 h11 h12 h13 h14 = refl
+
+pub other-refusal : (n : ℕ) → (n ≡ 1 → ⊥) → (n ≡ 2 → ⊥) → (n ≡ 3 → ⊥) → (n ≡ 4 → ⊥) → (n ≡ 5 → ⊥) → (n ≡ 6 → ⊥) → (n ≡ 7 → ⊥) → (n ≡ 8 → ⊥) → (n ≡ 9 → ⊥) → (n ≡ 10 → ⊥) → (n ≡ 11 → ⊥) → (n ≡ 12 → ⊥) → (n ≡ 13 → ⊥) → (n ≡ 14 → ⊥) → (n ≡ 18 → ⊥) → refusalWord n ≡ ascii "unknown"
 unfolding refusalWord
-other-refusal zero h1 h2 h3 h4 h5 h6 h7 h8 h9 h10 h11 h12 h13 h14 = refl
-other-refusal (suc zero) h1 h2 h3 h4 h5 h6 h7 h8 h9 h10 h11 h12 h13 h14 = absurd (h1 refl)
-other-refusal (suc (suc zero)) h1 h2 h3 h4 h5 h6 h7 h8 h9 h10 h11 h12 h13 h14 = absurd (h2 refl)
-other-refusal (suc (suc (suc zero))) h1 h2 h3 h4 h5 h6 h7 h8 h9 h10 h11 h12 h13 h14 = absurd (h3 refl)
-other-refusal (suc (suc (suc (suc zero)))) h1 h2 h3 h4 h5 h6 h7 h8 h9 h10 h11 h12 h13 h14 = absurd (h4 refl)
-other-refusal (suc (suc (suc (suc (suc zero))))) h1 h2 h3 h4 h5 h6 h7 h8 h9 h10 h11 h12 h13 h14 = absurd (h5 refl)
-other-refusal (suc (suc (suc (suc (suc (suc zero)))))) h1 h2 h3 h4 h5 h6 h7 h8 h9 h10 h11 h12 h13 h14 = absurd (h6 refl)
-other-refusal (suc (suc (suc (suc (suc (suc (suc zero))))))) h1 h2 h3 h4 h5 h6 h7 h8 h9 h10 h11 h12 h13 h14 = absurd (h7 refl)
-other-refusal (suc (suc (suc (suc (suc (suc (suc (suc zero)))))))) h1 h2 h3 h4 h5 h6 h7 h8 h9 h10 h11 h12 h13 h14 = absurd (h8 refl)
-other-refusal (suc (suc (suc (suc (suc (suc (suc (suc (suc zero))))))))) h1 h2 h3 h4 h5 h6 h7 h8 h9 h10 h11 h12 h13 h14 = absurd (h9 refl)
-other-refusal (suc (suc (suc (suc (suc (suc (suc (suc (suc (suc zero)))))))))) h1 h2 h3 h4 h5 h6 h7 h8 h9 h10 h11 h12 h13 h14 = absurd (h10 refl)
-other-refusal (suc (suc (suc (suc (suc (suc (suc (suc (suc (suc (suc zero))))))))))) h1 h2 h3 h4 h5 h6 h7 h8 h9 h10 h11 h12 h13 h14 = absurd (h11 refl)
-other-refusal (suc (suc (suc (suc (suc (suc (suc (suc (suc (suc (suc (suc zero)))))))))))) h1 h2 h3 h4 h5 h6 h7 h8 h9 h10 h11 h12 h13 h14 = absurd (h12 refl)
-other-refusal (suc (suc (suc (suc (suc (suc (suc (suc (suc (suc (suc (suc (suc zero))))))))))))) h1 h2 h3 h4 h5 h6 h7 h8 h9 h10 h11 h12 h13 h14 = absurd (h13 refl)
-other-refusal (suc (suc (suc (suc (suc (suc (suc (suc (suc (suc (suc (suc (suc (suc zero)))))))))))))) h1 h2 h3 h4 h5 h6 h7 h8 h9 h10 h11 h12 h13 h14 = absurd (h14 refl)
-other-refusal (suc (suc (suc (suc (suc (suc (suc (suc (suc (suc (suc (suc (suc (suc (suc n))))))))))))))) h1 h2 h3 h4 h5 h6 h7 h8 h9 h10 h11 h12 h13 h14 = refl
+other-refusal n h1 h2 h3 h4 h5 h6 h7 h8 h9 h10 h11 h12 h13 h14 h18 = rw (ne-eqb n 18 h18) (other-session n h1 h2 h3 h4 h5 h6 h7 h8 h9 h10 h11 h12 h13 h14)
 
 -- the flags: by name, or the byte
 pub spare-flags : (n : ℕ) (a b c e : Bool) → ltb n 16 ≡ false → flagsText n a b c e ≡ ascii " flags=" ++ decimal n

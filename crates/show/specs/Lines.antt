@@ -3,7 +3,7 @@ use Prim.Native.Nat.{ℕ, _+_, _-_, _*_}
 use mathlib.Core.List.{List, [], _∷_, _++_}
 use mathlib.Core.Bool.{Bool, cond}
 use lib.ListN.{length, getD, drop}
-use lib.Dec.{ltb}
+use lib.Dec.{ltb, eqb}
 use Rattle.paper.specs.declared.Reading.{Reading}
 use Rattle.paper.specs.declared.Serial.{Serial}
 use Rattle.paper.specs.Numbers.{u8, serialNos}
@@ -45,8 +45,9 @@ refusalWords =
     ∷ ascii "no-room"
     ∷ []
 
+-- and for document 02, Item 10: "18, given exactly if no surface is free"
 unfoldable pub refusalWord : ℕ → List ℕ
-refusalWord n = getD refusalWords n (ascii "unknown")
+refusalWord n = cond (eqb n 18) (ascii "none-free") (getD refusalWords n (ascii "unknown"))
 
 -- "flags u8 (bit 0 NoRaslOutputFlag, 1 output flag, 2 valid for prevTid0Pic, 3 no output of prior pictures)": the words of those that
 -- are set; where a spare bit is, the byte

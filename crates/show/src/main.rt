@@ -171,7 +171,7 @@ fn turn(st: Reading, next: u64, held: usize, input: &mut [u8], output: &mut [u8]
     }
     let made = l.made;
     let reading = l.reading;
-    let more = io::write_all(1, &output[..made]);
+    let more = stream::write_front(output, made).wrote;
     stream::shift(input, taken, held);
     After {
         next: l.next,
@@ -202,10 +202,7 @@ fn run(input: &mut [u8], output: &mut [u8]) -> After
     while left > 0 {
         let st = t.reading;
         t = turn(st, t.next, t.held, input, output);
-        if !t.more {
-            return t;
-        }
-        left -= 1;
+        left = stream::turns_left(left, t.more);
     }
     t
 }

@@ -36,7 +36,7 @@ fn put_kind(d: &mut [u8], at: usize, kind: u16) -> usize
     }
 }
 
-// A word for each number a session says no with.
+// A word for each number a session says no with, and for that of a pool, 18.
 fn put_reason(d: &mut [u8], at: usize, number: u16) -> usize
     requires { ⌜ at + 16 ≤ length (now d) ⌝ }
     ensures { λ r. ⌜ Wrote (now (d .entry)) at (refusalWord number) 16 r (now (d .exit)) ⌝ }
@@ -56,6 +56,7 @@ fn put_reason(d: &mut [u8], at: usize, number: u16) -> usize
         12 => text::put(d, at, b"bad-entry"),
         13 => text::put(d, at, b"malformed"),
         14 => text::put(d, at, b"no-room"),
+        18 => text::put(d, at, b"none-free"),
         _ => text::put(d, at, b"unknown"),
     }
 }

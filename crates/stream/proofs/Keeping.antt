@@ -1,13 +1,13 @@
 -- What waits in a buffer is kept: a read goes behind it, and what was taken is cut off in front.
 use Prim.Native.Nat.{ℕ, _+_, _-_, _≤_, min}
-use mathlib.Core.Path.{_≡_, sym, ap, _∙_}
+use mathlib.Core.Path.{_≡_, refl, sym, ap, _∙_}
 use mathlib.Core.List.{List, [], _++_, append-assoc, append-nil}
 use native.Mathlib.Omega.{arith}
 use mathlib.Core.Bool.{true, false}
-use borrow.Author.Tests.{le-ltb}
+use borrow.Author.Tests.{le-ltb, ltb-false}
 use lib.Dec.{ltb}
 use lib.ListN.{length, take, drop, length-drop, length-take, take-append-drop, drop-of-length-le}
-use lib.Seq.{paste, take-at, take-add, take-take, take-paste, length-take-le}
+use lib.Seq.{paste, take-at, drop-at, take-add, take-take, take-paste, length-take-le}
 use Rattle.stream.specs.declared.Read.{Read}
 use Rattle.stream.specs.Turns.{Fed, brought, shifted}
 
@@ -63,14 +63,27 @@ pub still-same : {all : List ℕ} (held holds : ℕ) (after : List ℕ) → hold
 still-same {all} held holds after h = ap (λ (l : List ℕ). all ++ l) (none-brought held holds after h) ∙ append-nil all
 
 -- nor does what waits change, where nothing was taken
-pub unmoved : (held holds : ℕ) (before after : List ℕ) → holds ≤ held → take held before ++ brought held holds after ≡ take holds after → take holds after ≡ take held before
+unmoved : (held holds : ℕ) (before after : List ℕ) → holds ≤ held → take held before ++ brought held holds after ≡ take holds after → take holds after ≡ take held before
 unmoved held holds before after h e = sym e ∙ still-same held holds after h
+
+-- so where no whole one waited none does then
+pub none-then : (size : List ℕ → ℕ) (held holds : ℕ) (before after : List ℕ) → size (take held before) ≡ 0 → ltb held holds ≡ false → take held before ++ brought held holds after ≡ take holds after
+    → size (take holds after) ≡ 0
+none-then size held holds before after z n e = let k = ltb-false held holds n in ap size (unmoved held holds before after (omega arith) e) ∙ z
 
 -- what was taken is cut off in front, and what waits behind it is moved to the start: no byte is lost
 pub taken-off : {taken : ℕ} {after : List ℕ} (cut : List ℕ) (held : ℕ) (before : List ℕ) → held ≤ length before → taken ≤ held → take taken (take held before) ≡ cut → after ≡ shifted before taken held
     → take held before ++ brought held (held - taken) after ≡ cut ++ take (held - taken) after
 taken-off {taken} {after} cut held before h k c e =
     still-same held (held - taken) after (omega arith) ∙ cut-off cut held before h k c (e ∙ shifted-within before taken held h)
+
+-- so what waits then is what was behind that
+pub left-over : {n : ℕ} {after : List ℕ} (held : ℕ) (before : List ℕ) → held ≤ length before → n ≤ length (take held before) → after ≡ shifted before n held
+    → drop n (take held before) ≡ take (held - n) after
+left-over {n} {after} held before h k e =
+    let x = take held before in
+    let l = length-take-le held before h in
+    ap (drop n) (cut-off (take n x) held before h (omega arith) refl (e ∙ shifted-within before n held h)) ∙ drop-at (take n x) (take (held - n) after) n (length-take-le n x k)
 
 -- a read that failed brought nothing, so no more waits
 pub none-more : {held : ℕ} {before after : List ℕ} {r : Read} → Fed held before r after → r .failed ≡ true → ltb held (r .held) ≡ false

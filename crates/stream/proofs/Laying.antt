@@ -4,7 +4,7 @@ use mathlib.Core.Path.{_≡_, refl, sym, ap, ap₂, subst, _∙_}
 use mathlib.Core.List.{List, [], _++_, append-assoc}
 use native.Mathlib.Omega.{arith}
 use lib.ListN.{length, take, drop, length-append, take-append-drop}
-use lib.Seq.{sets, sets-eq, take-at, drop-at, drop-drop, drop-append-le}
+use lib.Seq.{sets, sets-eq, length-take-le, take-take, take-at, drop-at, drop-drop, take-append-le, drop-append-le}
 use Rattle.wire.specs.Bytes.{over}
 use Rattle.stream.specs.Laid.{laidAt, Puts}
 use Rattle.stream.specs.Text.{Wrote}
@@ -18,6 +18,33 @@ laid-part {part} made k text before h e =
     let post = drop k (drop made before) in
     let rest : drop (length text) mid ++ post ≡ drop (length text) (drop made before) = sym (drop-append-le (length text) mid post h) ∙ ap (drop (length text)) (take-append-drop k (drop made before)) in
     ap (λ (l : List ℕ). take made before ++ l) (ap (λ (l : List ℕ). l ++ post) e ∙ append-assoc text (drop (length text) mid) post ∙ ap (λ (l : List ℕ). text ++ l) rest)
+
+-- bytes stored one behind the other are laid there
+pub sets-laid : (made : ℕ) (text l : List ℕ) → made + length text ≤ length l → sets l made text ≡ laidAt made text l
+unfolding over
+sets-laid made text l h =
+    sets-eq text l made h
+    ∙ append-assoc (take made l) text (drop (made + length text) l)
+    ∙ ap (λ (x : List ℕ). take made l ++ (text ++ x)) (sym (drop-drop (length text) made l))
+
+-- a head that is stored in front of text is laid with it
+pub head-laid : (made : ℕ) (head text l : List ℕ) → made + length head ≤ length l → sets (laidAt (made + length head) text l) made head ≡ laidAt made (head ++ text) l
+unfolding over
+head-laid made head text l h =
+    let n = made + length head in
+    let front = take n l in
+    let rest = over text (drop n l) in
+    let long : length front ≡ n = length-take-le n l h in
+    let both : length (front ++ rest) ≡ length front + length rest = length-append front rest in
+    let all : length (head ++ text) ≡ length head + length text = length-append head text in
+    let end = drop (length (head ++ text)) (drop made l) in
+    let behind : n + length text ≡ made + length (head ++ text) = omega arith in
+    let same : drop (length text) (drop n l) ≡ end = drop-drop (length text) n l ∙ ap (λ (k : ℕ). drop k l) behind ∙ sym (drop-drop (length (head ++ text)) made l) in
+    sets-eq head (front ++ rest) made (omega arith)
+    ∙ ap₂ (λ (x y : List ℕ). x ++ head ++ y) (take-append-le made front rest (omega arith) ∙ take-take made n l (omega arith)) (drop-at front rest n long)
+    ∙ append-assoc (take made l) head rest
+    ∙ ap (λ (x : List ℕ). take made l ++ (head ++ (text ++ x))) same
+    ∙ ap (λ (x : List ℕ). take made l ++ x) (sym (append-assoc head text end))
 
 -- and more behind what was put
 pub put-more : {made len : ℕ} {before middle after : List ℕ} (front text : List ℕ) → Puts made front before middle → len ≡ length text → after ≡ laidAt made text middle → Puts (made + len) (front ++ text) before after
@@ -40,11 +67,7 @@ unfolding over
 put-wrote {made} {before = before} {middle = middle} {after = after} front text p h w =
     let n = w .place in
     let k = w .fits in
-    let e : sets middle made text ≡ laidAt made text middle =
-    sets-eq text middle made (omega arith)
-    ∙ append-assoc (take made middle) text (drop (made + length text) middle)
-    ∙ ap (λ (l : List ℕ). take made middle ++ (text ++ l)) (sym (drop-drop (length text) made middle)) in
-    subst (λ (m : ℕ). Puts m (front ++ text) before after) (sym n) (put-more front text p refl (w .bytes ∙ e))
+    subst (λ (m : ℕ). Puts m (front ++ text) before after) (sym n) (put-more front text p refl (w .bytes ∙ sets-laid made text middle (omega arith)))
 
 -- what was put is found again
 pub put-front : {made : ℕ} {text before after : List ℕ} → Puts made text before after → take made after ≡ text

@@ -1,15 +1,23 @@
 -- One file in a turn: what is read stands behind what waits, and what is taken is cut off in front, so that all that was read is still there.
 use Prim.Native.Nat.{ℕ, _-_, _≤_}
 use mathlib.Core.Path.{_≡_, refl, sym, ap, _∙_}
-use mathlib.Core.List.{List, _++_}
+use mathlib.Core.List.{List, [], _++_}
 use native.Mathlib.Omega.{arith}
+use lib.IntN.{ℤ}
 use lib.ListN.{length, take, drop, length-drop}
 use lib.Seq.{length-paste}
 use borrow.Author.Tests.{eqb-true}
 use Rattle.stream.specs.declared.files.Feed.{Feed}
 use Rattle.stream.specs.Turns.{shifted}
-use Rattle.stream.specs.Files.{Fed, brought, lessened, Onward, Unread}
+use Rattle.stream.specs.Files.{Fed, brought, lessened, Onward, Unread, unread}
 use Rattle.stream.proofs.Keeping.{shifted-within, none-brought, read-so-far, still-same}
+
+-- nothing waits of a file of which nothing was read yet
+pub none-held : {f : Feed} {fd : ℤ} {n : ℕ} → f ≡ unread fd → f .held ≤ n
+none-held e = rw e (omega arith)
+
+pub none-waits : {f : Feed} {fd : ℤ} (l : List ℕ) → f ≡ unread fd → take (f .held) l ≡ []
+none-waits l e = rw e
 
 -- a file in a turn that takes nothing of it: it goes on, and what is read stands behind what waits
 pub record Side (f : Feed) (before : List ℕ) (r : Feed) (after : List ℕ) : Type 0 where

@@ -1,7 +1,7 @@
 -- A program that reads a stream turn by turn: what waits in its buffer, and all that its turns read or wrote.
 use Prim.Native.Nat.{ℕ, _-_, _≤_, min}
 use mathlib.Core.Path.{_≡_}
-use mathlib.Core.Bool.{true}
+use mathlib.Core.Bool.{Bool, true, cond}
 use mathlib.Core.List.{List, [], _∷_, _++_}
 use lib.ListN.{length, take, drop}
 use lib.Seq.{paste}
@@ -23,6 +23,10 @@ brought held holds after = drop held (take holds after)
 -- the bytes of a buffer from `from` to `end`, or to the last where `end` is past it, laid over its start
 abbrev pub shifted : List ℕ → ℕ → ℕ → List ℕ
 shifted l from end = paste l 0 (drop from l) (min end (length l) - from)
+
+-- the turns that are left behind one more: one less, and none where the run ends
+pub record Counted (left : ℕ) (more : Bool) (r : ℕ) : Type 0 where
+  pub rest : r ≡ cond more (left - 1) 0
 
 -- the turns of a run, by where it stood before each, the latest first: it starts so, and each turn leads from there to the next
 unfoldable pub Ran : {S : Type 0} → (S → Type 0) → (S → S → Type 0) → List S → S → Type 0

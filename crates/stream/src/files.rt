@@ -1,6 +1,6 @@
 // Files that are named by the program's arguments and read in blocks.
 ghost use mathlib.Core.Path.{_≡_};
-ghost use Rattle.stream.specs.Files.{Opened, Fed, lessened};
+ghost use Rattle.stream.specs.Files.{Opened, Fed, lessened, unread};
 
 // A file: how many of its bytes wait at the start of its buffer, and whether it has ended or could not be read.
 pub struct Feed {
@@ -8,6 +8,18 @@ pub struct Feed {
     pub held: usize,
     pub ended: bool,
     pub failed: bool,
+}
+
+// A file of which nothing was read yet.
+pub fn unread(fd: i32) -> Feed
+    ensures { λ r. ⌜ r ≡ unread fd ⌝ }
+{
+    Feed {
+        fd,
+        held: 0,
+        ended: false,
+        failed: false,
+    }
 }
 
 // One read behind the bytes that wait. None is read at the end of the file, or where it can't be read; a buffer that is

@@ -5,7 +5,8 @@ pub mod text;
 
 ghost use mathlib.Core.Path.{_≡_};
 ghost use Prim.Native.Nat.{min};
-ghost use Rattle.stream.specs.Turns.{Fed, shifted};
+ghost use lib.ListN.{length};
+ghost use Rattle.stream.specs.Turns.{Fed, shifted, Counted};
 
 // How many bytes wait now, and whether the read failed.
 pub struct Read {
@@ -47,4 +48,30 @@ pub fn shift(bytes: &mut [u8], from: usize, end: usize)
         bytes[i - from] = bytes[i];
         i += 1;
     }
+}
+
+// How many bytes were handed over to standard output, and whether they could be written.
+pub struct Handed {
+    pub bytes: usize,
+    pub wrote: bool,
+}
+
+// Hands the first n bytes over to standard output, or all where there are no more. What reaches it is not said.
+pub fn write_front(bytes: &[u8], n: usize) -> Handed
+    ensures { λ r. ⌜ r .bytes ≡ min n (length (now (bytes .entry))) ⌝ }
+{
+    let last = lesser(n, bytes.len());
+    let wrote = io::write_all(1, &bytes[..last]);
+    Handed { bytes: last, wrote }
+}
+
+// Nothing says that an input ends, so the turns of a run are counted: those that are left behind one more, and none
+// where the run ends.
+pub fn turns_left(left: u64, more: bool) -> u64
+    ensures { λ r. ⌜ Counted left more r ⌝ }
+{
+    if !more {
+        return 0;
+    }
+    if left > 0 { left - 1 } else { 0 }
 }

@@ -5,7 +5,7 @@ use mathlib.Core.Bool.{false, _&&_}
 use mathlib.Core.List.{List, [], _∷_, _++_, map}
 use native.Mathlib.Omega.{arith}
 use lib.ListN.{length, drop, length-map}
-use lib.Seq.{getD-drop, drop-drop}
+use lib.Seq.{drop-drop}
 use lib.Dec.{eqb}
 use borrow.Author.Tests.{ne-eqb}
 use Rattle.paper.specs.Numbers.{u8, u32, aSerial}
@@ -13,30 +13,12 @@ use Rattle.paper.specs.Kinds.{shownWidth}
 use Rattle.paper.specs.WholeReply.{thrownAt, releasedAt}
 use Rattle.paper.specs.Ledger.{readWords, readShown, readReleased, readTail, events, none}
 use Rattle.paper.specs.declared.Reading.{Reading}
+use Rattle.format.proofs.Tails.{u8-drop, u32-drop, u32-at, words-more, thrown-is}
 use Rattle.watch.specs.declared.events.Part.{Part}
 use Rattle.watch.specs.declared.events.Part.the-variants.{Handed, Thrown, Released}
 use Rattle.watch.specs.Events.{shownAt, eventAt, sizeOf, eventsOf, counted}
 
--- ---- a number at a place
-
-pub u8-drop : (k : ℕ) (r : List ℕ) → u8 (drop k r) 0 ≡ u8 r k
-u8-drop k r = let e : k + 0 ≡ k = omega arith in rw e at (getD-drop k r 0 0)
-
-pub u32-drop : (k i : ℕ) (r : List ℕ) → u32 (drop k r) i ≡ u32 r (k + i)
-u32-drop k i r =
-    let p : k + (i + 1) ≡ k + i + 1 = omega arith in
-    let q : k + (i + 2) ≡ k + i + 2 = omega arith in
-    let s : k + (i + 2 + 1) ≡ k + i + 2 + 1 = omega arith in
-    rw (getD-drop k r i 0, getD-drop k r (i + 1) 0, getD-drop k r (i + 2) 0, getD-drop k r (i + 2 + 1) 0, p, q, s)
-
 -- ---- the words and events from a place on
-
-pub u32-at : (k : ℕ) (r : List ℕ) → u32 (drop k r) 0 ≡ u32 r k
-u32-at k r = let e : k + 0 ≡ k = omega arith in u32-drop k 0 r ∙ ap (u32 r) e
-
-pub words-more : (m k : ℕ) (r : List ℕ) → readWords (suc m) (drop k r) ≡ u32 r k ∷ readWords m (drop (k + 4) r)
-unfolding readWords
-words-more m k r = rw (u32-at k r, drop-drop 4 k r)
 
 shown-more : (st : Reading) (m k : ℕ) (r : List ℕ) → readShown st (suc m) (drop k r) ≡ shownAt st r k ∷ readShown st m (drop (k + 12) r)
 unfolding readShown
@@ -140,25 +122,15 @@ module _ (st : Reading) (at : ℕ) (r : List ℕ) where
       let z = counted st Released (drop (releasedAt shownWidth r at) r) in
       rw (tail-events st at r, none-append x (y ++ z), none-append y z, none-counted st Handed at r, none-counted st Thrown (thrownAt shownWidth r at) r, none-counted st Released (releasedAt shownWidth r at) r)
 
-  -- the serials thrown away stand behind the second count
-  thrown-is : readTail st (drop at r) .thrown ≡ map aSerial (readWords (u8 r (thrownAt shownWidth r at)) (drop (thrownAt shownWidth r at + 1) r))
-  unfolding readTail readReleased
-  thrown-is =
-      let n = u8 r at in
-      let a : u8 (drop at r) 0 ≡ n = u8-drop at r in
-      let g : at + (1 + shownWidth * n) ≡ thrownAt shownWidth r at = omega arith in
-      let b : drop (shownWidth * n) (drop 1 (drop at r)) ≡ drop (thrownAt shownWidth r at) r = drop-drop (shownWidth * n) 1 (drop at r) ∙ drop-drop (1 + shownWidth * n) at r ∙ ap (λ (k : ℕ). drop k r) g in
-      rw (a, b, u8-drop (thrownAt shownWidth r at) r, drop-drop 1 (thrownAt shownWidth r at) r)
-
   pub none-thrown : none (readTail st (drop at r) .thrown) ≡ eqb (u8 r (thrownAt shownWidth r at)) 0
-  none-thrown = rw thrown-is (none-words aSerial (u8 r (thrownAt shownWidth r at)) (drop (thrownAt shownWidth r at + 1) r))
+  none-thrown = rw (thrown-is st at r) (none-words aSerial (u8 r (thrownAt shownWidth r at)) (drop (thrownAt shownWidth r at + 1) r))
 
   pub none-handed : none (readTail st (drop at r) .handed) ≡ eqb (u8 r at) 0
   unfolding readTail
   none-handed = none-shown st (u8 (drop at r) 0) (drop 1 (drop at r)) ∙ ap (λ (n : ℕ). eqb n 0) (u8-drop at r)
 
   pub thrown-count : length (readTail st (drop at r) .thrown) ≡ u8 r (thrownAt shownWidth r at)
-  thrown-count = rw thrown-is (length-map (readWords (u8 r (thrownAt shownWidth r at)) (drop (thrownAt shownWidth r at + 1) r)) aSerial ∙ length-words (u8 r (thrownAt shownWidth r at)) (drop (thrownAt shownWidth r at + 1) r))
+  thrown-count = rw (thrown-is st at r) (length-map (readWords (u8 r (thrownAt shownWidth r at)) (drop (thrownAt shownWidth r at + 1) r)) aSerial ∙ length-words (u8 r (thrownAt shownWidth r at)) (drop (thrownAt shownWidth r at + 1) r))
 
   pub handed-count : length (readTail st (drop at r) .handed) ≡ u8 r at
   unfolding readTail

@@ -22,11 +22,12 @@ use Rattle.paper.specs.declared.Serial.{Serial}
 use Rattle.paper.specs.declared.Line.{Line}
 use Rattle.paper.proofs.Bools.{split}
 use Rattle.format.proofs.Ends.{tail-begun, tail-other}
+use Rattle.format.proofs.Tails.{u32-drop, words-more, tail-there}
 use Rattle.watch.specs.Places.{startedIn, doneIn}
 use Rattle.watch.specs.Book.{listsIn, tallied, most}
 use Rattle.watch.specs.Judging.{calls}
 use Rattle.watch.specs.declared.Tally.{Tally}
-use Rattle.watch.proofs.Bytes.{u32-drop, words-more, words-append, thrown-count, handed-count}
+use Rattle.watch.proofs.Bytes.{words-append, thrown-count, handed-count}
 
 -- ---- the kind of reply
 
@@ -71,12 +72,7 @@ module _ (st : Reading) (r a : List ℕ) where
       ap (heard r) (read-listed st a z k) ∙ ap (λ (n : ℕ). eqb n (kindOf r)) (sym m))
       (λ f. ap (heard r) (read-done st a z (eqb-false (kindOf a) (replyTo beginKind) e) (eqb-false (kindOf a) (replyTo listsKind) f))))
 
--- ---- the place of a begin's tail, and its members
-
-pub tail-there : (a : List ℕ) → drop (4 * setWords (drop restPlace a)) (drop begunMembers (drop restPlace a)) ≡ drop (membersPlace + wordWidth * membersOf a) a
-tail-there a =
-    let m : setWords (drop restPlace a) ≡ membersOf a = rw (getD-drop restPlace a 9 0, getD-drop restPlace a 10 0, getD-drop restPlace a 11 0, getD-drop restPlace a 12 0, getD-drop restPlace a 13 0) in
-    ap (λ (k : ℕ). drop (4 * k) (drop begunMembers (drop restPlace a))) m ∙ ap (drop (4 * membersOf a)) (drop-drop begunMembers restPlace a) ∙ drop-drop (4 * membersOf a) 20 a
+-- ---- the members of a begin
 
 serials-append : (n m k : ℕ) (r : List ℕ) → readSerials n (drop k r) ++ readSerials m (drop (k + 4 * n) r) ≡ readSerials (n + m) (drop k r)
 serials-append n m k r = sym (ap (map aSerial) (words-append n m k r) ∙ map-append aSerial (readWords n (drop k r)) (readWords m (drop (k + 4 * n) r)))

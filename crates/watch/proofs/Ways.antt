@@ -31,7 +31,8 @@ use Rattle.watch.specs.Places.{startedIn}
 use Rattle.watch.specs.Judging.{Tidy, pageOf, leftPart, Gives, Judged, Lists, Ends, Abandons, Lands}
 use Rattle.watch.proofs.Walks.{keep-short}
 use Rattle.watch.proofs.Bytes.{none-thrown, none-handed}
-use Rattle.watch.proofs.ReplyLaws.{tail-there, members-read}
+use Rattle.format.proofs.Tails.{tail-there}
+use Rattle.watch.proofs.ReplyLaws.{members-read}
 
 -- ---- an answer with a part, and one with none
 

@@ -1,27 +1,8 @@
 //! The recordings of recordings/vectors and recordings/examples and the promises of the header, through the safe crate.
-//! TRUSSHEMP_CALLS is the folder that calls.py wrote.
-use std::fs;
+mod common;
+
+use common::{calls, files, Random, FILL};
 use trusshemp::{session_size, Answer, Session, REPLY, WORDS};
-
-const FILL: u8 = 0xA5;
-
-/// The bytes behind a count, and what follows them.
-fn counted(data: &[u8]) -> (&[u8], &[u8]) {
-    let (count, rest) = data.split_at(4);
-    rest.split_at(u32::from_le_bytes(count.try_into().unwrap()) as usize)
-}
-
-/// Each record of a file with its expected reply.
-fn calls(mut data: &[u8]) -> Vec<(&[u8], &[u8])> {
-    let mut found = Vec::new();
-    while !data.is_empty() {
-        let (said, rest) = counted(data);
-        let (answered, rest) = counted(rest);
-        found.push((said, answered));
-        data = rest;
-    }
-    found
-}
 
 #[test]
 fn the_size_is_the_archives() {
@@ -44,11 +25,9 @@ fn the_whole_exchange() {
 
 #[test]
 fn every_recording() {
-    let folder = std::env::var("TRUSSHEMP_CALLS").expect("TRUSSHEMP_CALLS is set");
-    let mut files = 0;
-    for entry in fs::read_dir(folder).unwrap() {
-        let path = entry.unwrap().path();
-        let data = fs::read(&path).unwrap();
+    let files = files("calls");
+    assert!(files.len() > 10, "{} files of calls", files.len());
+    for (path, data) in files {
         let mut session = Session::new();
         for (place, (said, answered)) in calls(&data).into_iter().enumerate() {
             let before = session.clone();
@@ -61,9 +40,7 @@ fn every_recording() {
             // kept as words and read again, it is the same session
             session = Session::from_words(session.words());
         }
-        files += 1;
     }
-    assert!(files > 10, "{files} files of calls");
 }
 
 #[test]
@@ -79,14 +56,10 @@ fn a_small_buffer() {
 /// Words that no call ever left get answers, and a refusal leaves every one of them.
 #[test]
 fn any_words_are_a_session() {
-    let mut seed = 1u64;
-    let mut next = || {
-        seed = seed.wrapping_mul(6364136223846793005).wrapping_add(1442695040888963407);
-        (seed >> 32) as u32
-    };
+    let mut random = Random::new();
     for _ in 0..200 {
         let mut words = [0; WORDS];
-        words.iter_mut().for_each(|w| *w = next() >> (next() % 32));
+        words.iter_mut().for_each(|w| *w = random.some());
         for kind in 0..=9u8 {
             let body = [4, 0, 0, 0, 0, 0, 0, 0, 0, 0, 0, 0];
             let size = [0, 6, 12, 4, 0, 0, 0, 0, 0, 0][kind as usize];

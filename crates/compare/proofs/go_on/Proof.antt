@@ -1,15 +1,17 @@
--- Each file is looked at where its bytes wait, and the move is the one that their sizes call for.
+-- Each file is looked at where its bytes wait, and what is done is what their sizes call for.
 use Prim.Native.Nat.{ℕ}
-use mathlib.Core.Path.{_≡_, sym, ap₂, subst, _∙_}
+use mathlib.Core.Path.{_≡_, refl, ap₂, subst, _∙_}
 use mathlib.Core.List.{List}
 use mathlib.Core.Bool.{Bool, true, false, not, _||_}
 use lib.Dec.{ltb}
 use lib.Seq.{length-take-le}
-use borrow.Author.Tests.{not-true, not-false}
-use Rattle.compare.specs.Pairs.{replySize, ready, someLeft}
-use Rattle.compare.specs.Turns.{waiting, stateOf}
-use Rattle.compare.proofs.Turning.{went-first, went-second, went-end}
 use borrow.Author.Needs.{needs}
+use borrow.Author.Tests.{not-true, not-false}
+use Rattle.stream.specs.declared.files.Feed.{Feed}
+use Rattle.stream.specs.Files.{Fed}
+use Rattle.compare.specs.declared.State.{State}
+use Rattle.compare.specs.Pairs.{replySize, ready, someLeft}
+use Rattle.compare.specs.Turns.{sizeIn, stateOf, Goes}
 use Rattle.compare.proofs.go_on.Statement.{statement}
 use Rattle.compare.proofs.go_on.Tie as tie
 
@@ -20,108 +22,37 @@ module _ {n : ℕ} (e : Bool) (l : List ℕ) (q : n ≡ replySize e l) where
   is-ready : not (ltb 0 n || e) ≡ false → ready e (replySize e l) ≡ true
   is-ready h = subst (λ (k : ℕ). ready e k ≡ true) q (not-false (ready e n) h)
 
-slice-reshare-prefix-reply-size : tie.Need-slice-reshare-prefix-reply-size
-slice-reshare-prefix-reply-size c = search needs
+module _ {r : State} (a b : Bool) (s : State) (first second : List ℕ) where
+  goes-first : {f : Feed} {after : List ℕ} → a ≡ false → r ≡ stateOf s f (s .second) (not (f .failed)) false → Fed (s .first) first f after → Goes a b s first second r after second
+  goes-first e q g = rw (e, q) (g, refl, refl)
 
-slice-aggregate-reply-size : tie.Need-slice-aggregate-reply-size
-slice-aggregate-reply-size c = let s = c .before .before .before .before .before in sym (length-take-le (s .args .s .first .held) (s .args .first .now) (s .pre .0))
+  module _ (e : a ≡ true) where
+    goes-second : {f : Feed} {after : List ℕ} → b ≡ false → r ≡ stateOf s (s .first) f (not (f .failed)) false → Fed (s .second) second f after → Goes a b s first second r first after
+    goes-second d q g = rw (e, d, q) (g, refl, refl)
 
-reply-size-requires : tie.Need-reply-size-requires
-reply-size-requires c κs = search needs
-
-read-on-requires : tie.Need-read-on-requires
-read-on-requires c κs = search needs
-
-fed-requires : tie.Need-fed-requires
-fed-requires c κs = search needs
-
-same-length : tie.Need-same-length
-same-length c = search needs
-
-returns : tie.Need-returns
-returns c =
-    let at-read-on = c .before .before .before .before in
-    let tested = at-read-on .before .before in
-    let st = tested .before .before .before .before .before .before .before .before in
-    let a = st .args in
-    let f = a .s .first in
-    went-first (a .s) (a .first .now) (a .second .now) (unready (f .ended) (waiting f (a .first .now)) (tested .before .before .reply-size .ensures) (tested .if1 .taken)) (c .fed .ensures)
-    (at-read-on .read-on .ensures)
-
-slice-reshare-prefix-reply-size-2 : tie.Need-slice-reshare-prefix-reply-size-2
-slice-reshare-prefix-reply-size-2 c = search needs
-
-slice-aggregate-reply-size-2 : tie.Need-slice-aggregate-reply-size-2
-slice-aggregate-reply-size-2 c = let s = c .before .before .before .before .before .before .before .before .before in sym (length-take-le (s .args .s .second .held) (s .args .second .now) (s .pre .1))
-
-reply-size-requires-2 : tie.Need-reply-size-requires-2
-reply-size-requires-2 c κs = search needs
-
-read-on-requires-2 : tie.Need-read-on-requires-2
-read-on-requires-2 c κs = search needs
-
-fed-requires-2 : tie.Need-fed-requires-2
-fed-requires-2 c κs = search needs
-
-same-length-2 : tie.Need-same-length-2
-same-length-2 c = search needs
-
-same-length-3 : tie.Need-same-length-3
-same-length-3 c = search needs
-
-returns-2 : tie.Need-returns-2
-returns-2 c =
-    let at-read-on2 = c .before .before .before .before in
-    let second = at-read-on2 .before .before in
-    let tested = second .before .before .before .before in
-    let st = tested .before .before .before .before .before .before .before .before in
-    let a = st .args in
-    let f = a .s .first in
-    let g = a .s .second in
-    went-second (a .s) (a .first .now) (a .second .now) (is-ready (f .ended) (waiting f (a .first .now)) (tested .before .before .reply-size .ensures) (tested .if1 .left))
-    (unready (g .ended) (waiting g (a .second .now)) (second .before .before .reply-size2 .ensures) (second .if2 .taken)) (c .fed2 .ensures) (at-read-on2 .read-on2 .ensures)
-
-fed-requires-3 : tie.Need-fed-requires-3
-fed-requires-3 c κs = search needs
-
-same-length-4 : tie.Need-same-length-4
-same-length-4 c = search needs
-
-same-length-5 : tie.Need-same-length-5
-same-length-5 c = search needs
-
-returns-3 : tie.Need-returns-3
-returns-3 c =
-    let tested = c .before .before .before .before .before in
-    let st = tested .before .before .before .before .before .before .before .before in
-    let a = st .args in
-    let f = a .s .first in
-    let g = a .s .second in
-    let n = tested .before .before .reply-size .ensures in
-    let m = c .before .before .before .reply-size2 .ensures in
-    went-end (a .s) (a .first .now) (a .second .now) (is-ready (f .ended) (waiting f (a .first .now)) n (tested .if1 .left)) (is-ready (g .ended) (waiting g (a .second .now)) m (c .before .if2 .left))
-    (c .fed3 .ensures ∙ ap₂ (λ (x y : ℕ). stateOf (a .s) f g false (someLeft x y)) n m)
+    goes-end : {n m : ℕ} → b ≡ true → n ≡ sizeIn (s .first) first → m ≡ sizeIn (s .second) second → r ≡ stateOf s (s .first) (s .second) false (someLeft n m) → Goes a b s first second r first second
+    goes-end d x y q = rw (e, d, q ∙ ap₂ (λ (n m : ℕ). stateOf s (s .first) (s .second) false (someLeft n m)) x y) (refl, refl, refl)
 
 pub go-on-spec : {M : Type 1} → statement M
 go-on-spec =
     tie.close
     (tie.spec
-    slice-reshare-prefix-reply-size
-    slice-aggregate-reply-size
-    reply-size-requires
-    read-on-requires
-    fed-requires
-    same-length
-    returns
-    slice-reshare-prefix-reply-size-2
-    slice-aggregate-reply-size-2
-    reply-size-requires-2
-    read-on-requires-2
-    fed-requires-2
-    same-length-2
-    same-length-3
-    returns-2
-    fed-requires-3
-    same-length-4
-    same-length-5
-    returns-3)
+    (λ c. search needs)
+    (λ c. search (needs, length-take-le))
+    (λ c κs. search needs)
+    (λ c κs. search needs)
+    (λ c κs. search needs)
+    (λ c. search needs)
+    (λ c. search (goes-first, unready))
+    (λ c. search needs)
+    (λ c. search (needs, length-take-le))
+    (λ c κs. search needs)
+    (λ c κs. search needs)
+    (λ c κs. search needs)
+    (λ c. search needs)
+    (λ c. search needs)
+    (λ c. search (goes-second, is-ready, unready))
+    (λ c κs. search needs)
+    (λ c. search needs)
+    (λ c. search needs)
+    (λ c. search (goes-end, is-ready)))

@@ -2,6 +2,7 @@
 use borrow.Author.Needs.{needs}
 use native.Mathlib.Omega.{arith}
 use denote.Ref.{now}
+use Rattle.session.specs.Numbered.{numberOf}
 use Rattle.session.proofs.Bytes.{refused-says}
 use Rattle.session.proofs.replies.refuse.Statement.{statement}
 use Rattle.session.proofs.replies.refuse.Tie as tie
@@ -19,7 +20,7 @@ returns : tie.Need-returns
 returns c =
     let at-number = c .before .before .before .before in
     let s = at-number .before .before in
-    refused-says (s .args .kind) (s .args .why) (now (s .args .reply)) (at-number .number .ensures) (c .before .before .put-head .ensures) (omega (arith, s .pre .room))
+    refused-says (s .args .kind) (numberOf (s .args .why)) (now (s .args .reply)) (at-number .number .ensures) (c .before .before .put-head .ensures) (omega (arith, s .pre .room))
 
 pub refuse-spec : {M : Type 1} → statement M
 refuse-spec = tie.close (tie.spec number-requires put-head-requires same-length returns)

@@ -1,0 +1,5 @@
+pub mod Fitting
+pub mod Answering
+pub mod Turning
+pub mod Running
+pub mod Bringing

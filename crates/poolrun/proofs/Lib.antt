@@ -1,0 +1,3 @@
+pub mod Surfaces
+pub mod Answering
+pub mod Paper

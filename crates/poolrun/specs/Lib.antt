@@ -1,0 +1,3 @@
+pub mod Files
+pub mod Machine
+pub mod Ran
