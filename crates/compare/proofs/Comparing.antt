@@ -1,5 +1,5 @@
--- No line, and no byte of text, exactly if the two files are equal: no line says that the replies are equal one by one, no byte of a file is outside its replies,
--- and each line has some text. With it all that Item 5 asks.
+-- No line, and no byte of text, exactly if the two files are equal: no line says that the replies are equal one by one,
+-- no byte of a file is outside its replies, and each line has some text. With it all that Item 5 asks.
 use Prim.Native.Nat.{ℕ, _+_, _<_}
 use mathlib.Core.Path.{_≡_, refl, sym, ap, ap₂, _∙_}
 use mathlib.Core.List.{List, [], _∷_, _++_}

@@ -1,5 +1,5 @@
--- The replies of a file are all of its bytes, and none of them is empty: a file is cut into whole ones and what is left, and what is left is one more only where
--- it has a byte.
+-- The replies of a file are all of its bytes, and none of them is empty: a file is cut into whole ones and what is
+-- left, and what is left is one more only where it has a byte.
 use Prim.Native.Nat.{ℕ, _+_}
 use mathlib.Core.Path.{_≡_, refl, ap, _∙_}
 use mathlib.Core.List.{List, [], _∷_, _++_, append-nil}

@@ -1,4 +1,5 @@
--- One pair more behind those of a block: a reply of each file, or none of one that has ended, and the line that they call for.
+-- One pair more behind those of a block: a reply of each file, or none of one that has ended, and the line that they
+-- call for.
 use Prim.Native.Nat.{ℕ, _+_, _-_, _≤_, _<_, max}
 use mathlib.Core.Path.{_≡_, refl, sym, ap, ap₂, subst, _∙_}
 use mathlib.Core.List.{List, [], _++_}

@@ -1,5 +1,6 @@
--- The lines of two files are those of each number, in order, and no other list of lines is that: the replies of one number give the lines of that number, all
--- later lines have a higher one, and of two lists in order that have the same lines of each number the first lines are equal, and so on.
+-- The lines of two files are those of each number, in order, and no other list of lines is that: the replies of one
+-- number give the lines of that number, all later lines have a higher one, and of two lists in order that have the same
+-- lines of each number the first lines are equal, and so on.
 use Prim.Native.Nat.{ℕ, zero, suc, _+_, _≤_, _<_}
 use mathlib.Core.Path.{_≡_, refl, sym, ap, ap₂, _∙_}
 use mathlib.Core.Option.{Option, none, some}

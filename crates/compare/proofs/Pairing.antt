@@ -1,4 +1,5 @@
--- Replies are taken off the front of two files, and the lines of those taken so far are numbered on: the heads leave one way to cut a file.
+-- Replies are taken off the front of two files, and the lines of those taken so far are numbered on: the heads leave
+-- one way to cut a file.
 use Prim.Native.Nat.{ℕ, _+_, _≤_, _<_, max}
 use mathlib.Core.Path.{_≡_, refl, sym, ap, subst, _∙_}
 use mathlib.Core.List.{List, [], _∷_, _++_, append-nil, append-assoc}

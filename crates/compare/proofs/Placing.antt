@@ -1,5 +1,5 @@
--- Two replies are the same exactly if they are equal, and one place is the first at which they differ: both go byte by byte, and stop at the first difference
--- or where one of the two ends.
+-- Two replies are the same exactly if they are equal, and one place is the first at which they differ: both go byte by
+-- byte, and stop at the first difference or where one of the two ends.
 use Prim.Native.Nat.{ℕ, suc, _<_, min}
 use mathlib.Core.Path.{_≡_, refl, sym, ap, ap₂, _∙_}
 use mathlib.Core.Logic.{_⊎_, inl, inr, ⊎-elim}

@@ -1,4 +1,5 @@
--- Turn after turn: all that was read so far is replies whose lines were handed over, and what waits; where the run ends both files have ended and nothing waits.
+-- Turn after turn: all that was read so far is replies whose lines were handed over, and what waits; where the run ends
+-- both files have ended and nothing waits.
 use Prim.Native.Nat.{ℕ, _+_, _<_, max}
 use mathlib.Core.Path.{_≡_, refl, sym, ap, ap₂, subst, _∙_}
 use mathlib.Core.List.{List, [], _++_, append-nil, append-assoc}
@@ -36,8 +37,8 @@ none-cut file rest rs c z =
 end-seen : (f : Feed) → f .ended ≡ true → f .failed ≡ false → atEnd f ≡ true
 end-seen f e x = both e (ap not x)
 
--- a file in a turn: one whose end was seen is not read on; replies are taken of it, and it does not fail, or nothing is taken, and all that waited and was read
--- waits
+-- a file in a turn: one whose end was seen is not read on; replies are taken of it, and it does not fail, or nothing is
+-- taken, and all that waited and was read waits
 record Turns (f : Feed) (before : List ℕ) (r : Feed) (after : List ℕ) (qs : List (List ℕ)) : Type 0 where
   on : Onward f r after
   ended : f .ended ≡ true → Unread f r after
@@ -81,7 +82,8 @@ module _ {before after : List ℕ} {qs : List (List ℕ)} {f r : Feed} (t : Turn
         let w : waiting f before ++ brought f r after ≡ [] = ap₂ (λ (l m : List ℕ). l ++ m) (ap (λ (n : ℕ). take n before) z) (t .ended (k .0) .none) in
         none-cut (waiting f before ++ brought f r after) (waiting r after) qs (t .taken .0 y) w
 
-  -- one that gave fewer replies than the other, n and then p where the other gave m and then q, has ended and nothing of it waits
+  -- one that gave fewer replies than the other, n and then p where the other gave m and then q, has ended and nothing
+  -- of it waits
   fewer-on : (n m p q : ℕ) → f .failed ≡ false → (n < m → (atEnd f ≡ true) × (f .held ≡ 0)) → (p < q → (f .ended ≡ true) × (r .held ≡ 0)) → n + p < m + q → (atEnd r ≡ true) × (r .held ≡ 0)
   fewer-on n m p q x so-far now h =
       split (ltb p q)
@@ -287,7 +289,8 @@ module _ (x y : ℤ) where
 
 -- ---- the theorem of the program
 
--- WHATEVER FAILED, W IS THE FRONT OF THE LINES of every two files that begin with R and A and end where their end was seen
+-- WHATEVER FAILED, W IS THE FRONT OF THE LINES of every two files that begin with R and A and end where their end was
+-- seen
 pub written-front : {x y : ℤ} {s : Stand} (g : Compares x y s) (more others : List ℕ) → (atEnd (s .state .first) ≡ true → more ≡ []) → (atEnd (s .state .second) ≡ true → others ≡ [])
     → comparedText (g .R ++ more) (g .A ++ others) ≡ g .W ++ linesText (s .state .number) (repliesOf (waiting (s .state .first) (s .first) ++ more)) (repliesOf (waiting (s .state .second) (s .second) ++ others))
 written-front {s = s} g more others c d =

@@ -1,4 +1,5 @@
--- A turn keeps what waits: no pair waited, and a file is read on or the run ends; or the lines of some pairs were made and their replies cut off.
+-- A turn keeps what waits: no pair waited, and a file is read on or the run ends; or the lines of some pairs were made
+-- and their replies cut off.
 use Prim.Native.Nat.{ℕ, _+_, _-_, _≤_, _<_}
 use mathlib.Core.Path.{_≡_, refl, sym, ap, ap₂, subst, _∙_}
 use mathlib.Core.List.{List, [], _++_}

@@ -1,4 +1,5 @@
--- Two files of replies and what is written of them, worked out by hand from document 01's replies ("u16 body length, u16 kind, body") and document 02's Item 5.
+-- Two files of replies and what is written of them, worked out by hand from document 01's replies ("u16 body length,
+-- u16 kind, body") and document 02's Item 5.
 use Prim.Native.Nat.{ℕ}
 use Prim.Native.String.{String}
 use mathlib.Core.List.{List, [], _∷_, _++_}
@@ -33,9 +34,17 @@ five = refusedDrain ++ refusedDrain ++ refusedDrain ++ refusedDrain ++ refusedDr
 abbrev pub examples : List Example
 examples =
     -- "One run, whose second file lacks only the third and last reply: `2 only first`."
-    record { first = configured ++ refusedLists ++ refusedDrain; second = configured ++ refusedLists; text = "2 only first\n" }
+    record {
+      first = configured ++ refusedLists ++ refusedDrain;
+      second = configured ++ refusedLists;
+      text = "2 only first\n";
+    }
     -- the other way round
-    ∷ record { first = configured ++ refusedLists; second = configured ++ refusedLists ++ refusedDrain; text = "2 only second\n" }
+    ∷ record {
+      first = configured ++ refusedLists;
+      second = configured ++ refusedLists ++ refusedDrain;
+      text = "2 only second\n";
+    }
     -- a byte differs; one behind the ninth
     ∷ record { first = configured ++ refusedLists; second = otherTail ++ refusedLists; text = "0 differ 7\n" }
     ∷ record { first = refusedLists ++ begunWith 7; second = refusedLists ++ begunWith 3; text = "1 differ 10\n" }
@@ -47,7 +56,11 @@ examples =
     }
     ∷ record { first = configured ++ refusedLists; second = configured ++ refusedLists; text = "" }
     -- an incomplete last reply against the whole one: the shorter length; and against none
-    ∷ record { first = configured ++ refusedLists; second = configured ++ (2 ∷ 0 ∷ 3 ∷ 1 ∷ 10 ∷ []); text = "1 differ 5\n" }
+    ∷ record {
+      first = configured ++ refusedLists;
+      second = configured ++ (2 ∷ 0 ∷ 3 ∷ 1 ∷ 10 ∷ []);
+      text = "1 differ 5\n";
+    }
     ∷ record { first = configured ++ (2 ∷ 0 ∷ 3 ∷ 1 ∷ 10 ∷ []); second = configured; text = "1 only first\n" }
     ∷ record { first = configured; second = configured ++ (2 ∷ 0 ∷ 3 ∷ 1 ∷ 10 ∷ []); text = "1 only second\n" }
     -- a byte in the middle of it differs: the place of that byte, though it is the shorter one too
@@ -57,8 +70,13 @@ examples =
     ∷ record { first = configured ++ (2 ∷ 0 ∷ []); second = configured; text = "1 only first\n" }
     ∷ record { first = configured ++ refusedLists; second = configured ++ (2 ∷ 0 ∷ 3 ∷ []); text = "1 differ 3\n" }
     ∷ record { first = 2 ∷ []; second = 2 ∷ 0 ∷ []; text = "0 differ 1\n" }
-    -- each file is cut by its own heads: where the first says one byte more, the cuts behind it stand elsewhere, here 7 and 5 bytes
-    ∷ record { first = refusedLists ++ refusedDrain; second = 3 ∷ 0 ∷ 3 ∷ 1 ∷ 10 ∷ 0 ∷ 2 ∷ 0 ∷ 5 ∷ 1 ∷ 9 ∷ 0 ∷ []; text = "0 differ 0\n1 differ 0\n" }
+    -- each file is cut by its own heads: where the first says one byte more, the cuts behind it stand elsewhere, here 7
+    -- and 5 bytes
+    ∷ record {
+      first = refusedLists ++ refusedDrain;
+      second = 3 ∷ 0 ∷ 3 ∷ 1 ∷ 10 ∷ 0 ∷ 2 ∷ 0 ∷ 5 ∷ 1 ∷ 9 ∷ 0 ∷ [];
+      text = "0 differ 0\n1 differ 0\n";
+    }
     -- replies of two lengths: their heads differ
     ∷ record { first = configured; second = refusedLists; text = "0 differ 0\n" }
     -- an empty file against one reply and against two, and two empty files

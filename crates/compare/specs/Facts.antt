@@ -9,7 +9,8 @@ use lib.Dec.{ltb, eqb}
 use lib.ListN.{length, getD, take, getElem?}
 use Rattle.paper.specs.Words.{keep, allB}
 use Rattle.format.specs.Cut.{sizeOf, joined, isWhole, cut, restOf}
-use Rattle.compare.specs.Lines.{repliesOf, same, firstPlace, Line, Differ, OnlyFirst, OnlySecond, compared, comparedText}
+use Rattle.compare.specs.Lines.{repliesOf, same, firstPlace, Line, Differ, OnlyFirst, OnlySecond, compared}
+use Rattle.compare.specs.Lines.{comparedText}
 
 -- "An incomplete last reply counts as a reply of the bytes it has."
 pub record Counted (file : List ℕ) : Type 0 where
@@ -42,8 +43,8 @@ numberOf (Differ n p) = n
 numberOf (OnlyFirst n) = n
 numberOf (OnlySecond n) = n
 
--- "For reply numbers from 0 it writes `N differ P` .., `N only first` or `N only second`, ..; nothing for equal replies": the lines of number n, by the reply
--- of that number that each file has or has not
+-- "For reply numbers from 0 it writes `N differ P` .., `N only first` or `N only second`, ..; nothing for equal
+-- replies": the lines of number n, by the reply of that number that each file has or has not
 abbrev pub lineAt : ℕ → Option (List ℕ) → Option (List ℕ) → List Line
 lineAt n none none = []
 lineAt n (some a) none = OnlyFirst n ∷ []
@@ -60,7 +61,8 @@ rises [] = true
 rises (n ∷ []) = true
 rises (n ∷ m ∷ ms) = ltb n m && rises (m ∷ ms)
 
--- Lines that are those of two files: a line for every number at which the files differ and no other, in order, each number at most once
+-- Lines that are those of two files: a line for every number at which the files differ and no other, in order, each
+-- number at most once
 pub record AreLinesOf (first second : List ℕ) (lines : List Line) : Type 0 where
   pub each : (n : ℕ) → ofNumber n lines ≡ lineAt n (getElem? (repliesOf first) n) (getElem? (repliesOf second) n)
   pub in-order : rises (map numberOf lines) ≡ true

@@ -1,4 +1,5 @@
--- Document 02, Item 5: two files of replies, compared. The lines, and their text, as functions of the bytes of the two files.
+-- Document 02, Item 5: two files of replies, compared. The lines, and their text, as functions of the bytes of the two
+-- files.
 use Prim.Native.Nat.{ℕ, _+_}
 use mathlib.Core.List.{List, [], _∷_, _++_}
 use mathlib.Core.Bool.{Bool, true, false, cond, _&&_}

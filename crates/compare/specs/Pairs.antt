@@ -11,8 +11,9 @@ use Rattle.stream.specs.Laid.{Puts}
 use Rattle.compare.specs.Lines.{lastOf, repliesOf, linesFrom, lineText}
 use Rattle.compare.specs.declared.Compared.{Compared}
 
--- "An incomplete last reply counts as a reply of the bytes it has": the size of the reply at the start of these bytes, the last where the file has ended behind
--- them. 0: no whole reply is there yet, or, where the file has ended, nothing is left
+-- "An incomplete last reply counts as a reply of the bytes it has": the size of the reply at the start of these bytes,
+-- the last where the file has ended behind them. 0: no whole reply is there yet, or, where the file has ended, nothing
+-- is left
 abbrev pub replySize : Bool → List ℕ → ℕ
 replySize ended l = cond (eqb (sizeOf l) 0 && ended) (length l) (sizeOf l)
 
@@ -61,10 +62,13 @@ pairText n a b = linesText n (lastOf a) (lastOf b)
 
 -- Some replies were taken of some bytes of a file, whatever stands behind these; behind the end of a file nothing does
 abbrev pub Cuts : Bool → List ℕ → List (List ℕ) → List ℕ → Type 0
-Cuts ended file taken rest = (more : List ℕ) → (ended ≡ true → more ≡ []) → repliesOf (file ++ more) ≡ taken ++ repliesOf (rest ++ more)
+Cuts ended file taken rest =
+    (more : List ℕ) → (ended ≡ true → more ≡ []) → repliesOf (file ++ more) ≡ taken ++ repliesOf (rest ++ more)
 
--- The pairs of a block. `firsts` and `seconds` are the replies that were taken of the first r .first and r .second bytes; their lines are put into the output
-pub record Paired (n : ℕ) (first : List ℕ) (e : Bool) (second : List ℕ) (f : Bool) (before : List ℕ) (r : Compared) (after : List ℕ) : Type 0 where
+-- The pairs of a block. `firsts` and `seconds` are the replies that were taken of the first r .first and r .second
+-- bytes; their lines are put into the output
+pub record Paired (n : ℕ) (first : List ℕ) (e : Bool) (second : List ℕ) (f : Bool) (before : List ℕ) (r : Compared)
+    (after : List ℕ) : Type 0 where
   pub firsts : List (List ℕ)
   pub seconds : List (List ℕ)
   pub cut-first : Cuts e first firsts (drop (r .first) first)

@@ -189,15 +189,15 @@ fn run(first_fd: i32, second_fd: i32, first: &mut [u8], second: &mut [u8], out: 
     s
 }
 
-// What failed is named on standard error.
-fn finish(s: State) {
+// What failed is named on standard error, the files by these names.
+fn finish(s: State, first: &[u8], second: &[u8]) {
     let a = s.first;
     let b = s.second;
     if a.failed {
-        stream::files::unreadable(1, b"compare");
+        stream::files::unreadable(first, b"compare");
     }
     if b.failed {
-        stream::files::unreadable(2, b"compare");
+        stream::files::unreadable(second, b"compare");
     }
     if s.unwritten {
         io::write_all(2, b"compare: standard output can't be written\n");
@@ -210,7 +210,7 @@ fn finish(s: State) {
     }
 }
 
-// The buffers are here, of one size for any length of the files.
+// The buffers and the names are here, of one size for any length of the files.
 fn main() {
     if os::arg_count() != 3 {
         io::write_all(2, b"usage: compare FIRST SECOND\n");
@@ -224,6 +224,10 @@ fn main() {
     let mut first = [0u8; INPUT];
     let mut second = [0u8; INPUT];
     let mut output = [0u8; OUTPUT];
+    let mut first_name = io::buffer();
+    let mut second_name = io::buffer();
+    let n = os::arg(1, &mut first_name);
+    let m = os::arg(2, &mut second_name);
     let s = run(a, b, &mut first, &mut second, &mut output);
-    finish(s);
+    finish(s, &first_name[..n], &second_name[..m]);
 }

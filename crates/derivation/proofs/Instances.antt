@@ -1,4 +1,5 @@
--- The paper's two lists are the one list that the code builds, since they differ in candidates and last place alone; a list and a run leave no choice.
+-- The paper's two lists are the one list that the code builds, since they differ in candidates and last place alone; a
+-- list and a run leave no choice.
 use mathlib.Core.Path.{_≡_, refl, sym, ap, _∙_}
 use mathlib.Core.List.{List}
 use Prim.Native.Nat.{ℕ, _<_, _≤_}

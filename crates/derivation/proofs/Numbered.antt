@@ -1,4 +1,5 @@
--- An answer has number 6, outside i32, exactly when the test of its numbers fails, and else number 0 and these numbers: by the two cases of the test.
+-- An answer has number 6, outside i32, exactly when the test of its numbers fails, and else number 0 and these numbers:
+-- by the two cases of the test.
 use mathlib.Core.Path.{_≡_, refl, sym, ap, _∙_}
 use mathlib.Core.List.{List, [], _∷_}
 use mathlib.Core.Bool.{Bool, true, false, cond, _&&_}

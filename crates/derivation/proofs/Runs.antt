@@ -1,5 +1,5 @@
--- The three sets are one run: Before, After and LtCurr together are its front, and the two orders of candidates differ by which of
--- the first two parts a place falls into.
+-- The three sets are one run: Before, After and LtCurr together are its front, and the two orders of candidates differ
+-- by which of the first two parts a place falls into.
 use mathlib.Core.Path.{_≡_, refl, sym, ap, ap₂, _∙_, subst}
 use mathlib.Core.Bool.{Bool, true, false, cond, not, _&&_, _||_, true≢false}
 use mathlib.Core.List.{List, [], _∷_, _++_, map, map-append, append-assoc, append-nil}
@@ -27,15 +27,15 @@ use Rattle.derivation.proofs.Pad.{is-push, is-set}
 
 -- ---- how long each set is
 module _ (xs : List ℕ) (r : Refs) (h : length xs ≡ 16) where
-  before-length : length (refsIn xs r .before) ≡ min (r .before) 16
+  pub before-length : length (refsIn xs r .before) ≡ min (r .before) 16
   unfolding refsIn
   before-length = simp (length-map, length-take, h)
 
-  after-length : length (refsIn xs r .after) ≡ min (r .after) (16 - r .before)
+  pub after-length : length (refsIn xs r .after) ≡ min (r .after) (16 - r .before)
   unfolding refsIn
   after-length = simp (length-map, length-take, length-drop, h)
 
-  long-length : length (refsIn xs r .ltCurr) ≡ min (r .long) (16 - (r .before + r .after))
+  pub long-length : length (refsIn xs r .ltCurr) ≡ min (r .long) (16 - (r .before + r .after))
   unfolding refsIn
   long-length = simp (length-map, length-take, length-drop, h)
 

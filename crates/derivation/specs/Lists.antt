@@ -1,4 +1,5 @@
--- Reference lists (8.3.4): the run of members that is lent, the list that the paper's two lists are instances of, and the list that is built from any input.
+-- Reference lists (8.3.4): the run of members that is lent, the list that the paper's two lists are instances of, and
+-- the list that is built from any input.
 use Prim.Native.Nat.{ℕ, _+_, _-_, _%_, _≤_, _<_}
 use mathlib.Core.Path.{_≡_}
 use mathlib.Core.List.{List, [], map}
@@ -64,19 +65,20 @@ abbrev pub withLast : Bool → ℕ → Serial → List Serial → List Serial
 withLast last active c xs = cond last (set xs (active - 1) c) xs
 
 unfoldable pub listOf : State.Refs → Serial → Bool → Bool → Bool → ℕ → Bool → List ℕ → List Serial
-listOf x c own second last active modify es = withLast last active c (placed (candidatesOf x own second c) (askOf active modify es))
+listOf x c own second last active modify es =
+    withLast last active c (placed (candidatesOf x own second c) (askOf active modify es))
 
 -- whether n candidates fill a list: one at least, 1 to 16 places, and with the modify bit an entry byte for each place
 abbrev pub canFill : ℕ → ℕ → Bool → ℕ → Bool
 canFill n active modify bytes = ltb 0 n && leb 1 active && leb active 16 && (not modify || leb active bytes)
 
--- what stands at place j: "With n candidates, place j is candidate j mod n; with the modify bit it is the candidate at the entry byte",
--- where behind all candidates stands the current picture
+-- what stands at place j: "With n candidates, place j is candidate j mod n; with the modify bit it is the candidate at
+-- the entry byte", where behind all candidates stands the current picture
 abbrev pub placeOf : List Serial → Serial → Bool → List ℕ → ℕ → ℕ → Serial
 placeOf cs c modify es n j = getD cs (cond modify (getD es j 0) (j % n)) c
 
--- the list that is built from any input: no place where the candidates cannot fill it, else the active places; entry bytes
--- behind the first `active` do not count
+-- the list that is built from any input: no place where the candidates cannot fill it, else the active places; entry
+-- bytes behind the first `active` do not count
 unfoldable pub builtOf : State.Refs → Serial → Bool → Bool → Bool → ℕ → Bool → List ℕ → List Serial
 builtOf x c own second last active modify es =
     let cs = candidatesOf x own second c in
@@ -90,9 +92,10 @@ pub record CandidateCount (x : State.Refs) (own : Bool) (n : ℕ) : Type 0 where
   pub other : (c : Serial) → n ≡ length (candidates1 x own c)
   pub most : n ≤ 17
 
--- where the list that is built is the paper's: a candidate at least, 1 to 16 places, and with the modify bit an entry byte for
--- each place and no other, each below the number of candidates
-pub record Ready (x : State.Refs) (c : Serial) (own second : Bool) (active : ℕ) (modify : Bool) (es : List ℕ) : Type 0 where
+-- where the list that is built is the paper's: a candidate at least, 1 to 16 places, and with the modify bit an entry
+-- byte for each place and no other, each below the number of candidates
+pub record Ready (x : State.Refs) (c : Serial) (own second : Bool) (active : ℕ) (modify : Bool)
+    (es : List ℕ) : Type 0 where
   pub some : 0 < length (candidatesOf x own second c)
   pub least : 1 ≤ active
   pub most : active ≤ 16

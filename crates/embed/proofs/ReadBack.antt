@@ -1,4 +1,5 @@
--- A session laid out in memory is read back, for each number stands in a word of its own that is wide enough for it. Assumes nothing.
+-- A session laid out in memory is read back, for each number stands in a word of its own that is wide enough for it.
+-- Assumes nothing.
 use Prim.Native.Nat.{ℕ, zero, suc, _+_, _*_, _-_, _≤_, _<_, min}
 use mathlib.Core.Path.{_≡_, refl, sym, ap, _∙_}
 use mathlib.Core.Bool.{false}

@@ -1,8 +1,10 @@
 -- What the exported functions promise of the memory that a host lends.
-use Prim.Native.Nat.{ℕ}
+use Prim.Native.Nat.{ℕ, _≤_}
+use mathlib.Core.Path.{_≡_}
 use mathlib.Core.List.{List}
 use Rattle.session.specs.declared.Answer.{Answer}
 use Rattle.session.specs.View.{Memory}
+use Rattle.session.specs.Laid.{NormalMemory}
 use Rattle.session.specs.Said.{Permitted}
 use Rattle.pool.specs.declared.Given.{Given}
 use Rattle.pool.specs.Memory.{PoolMemory}
@@ -11,6 +13,17 @@ use Rattle.pool.specs.Said as Pool
 -- how many words a session takes: 23 beside its sets and its store, 16 of its sets, 97 of its store
 abbrev pub words : ℕ
 words = 136
+
+-- the number of the layout of a session's and a pool's memory: it goes up whenever a word is added, moved or means
+-- something else
+abbrev pub layout : ℕ
+layout = 1
+
+-- an answer on memory m: 1 exactly where it is a session in the normal form, and else 0
+pub record SaysNormal (answer : ℕ) (m : Memory) : Type 0 where
+  pub only : answer ≡ 1 → NormalMemory m
+  pub always : NormalMemory m → answer ≡ 1
+  pub flag : answer ≤ 1
 
 abbrev pub answerOf : ℕ → ℕ → Answer
 answerOf number len = record { number = number; len = len }

@@ -10,7 +10,7 @@ ghost use Rattle.session.specs.View.{memory, sessionIn};
 ghost use Rattle.session.specs.Laid.{NormalMemory};
 ghost use Rattle.pool.specs.Memory.{poolMemory};
 ghost use Rattle.pool.specs.Said.{Makes, GivesBack};
-ghost use Rattle.embed.specs.Lent.{words, poolWords, Stepped, PoolStepped};
+ghost use Rattle.embed.specs.Lent.{words, layout, poolWords, SaysNormal, Stepped, PoolStepped};
 use session::FRONT;
 use store::Store;
 
@@ -20,6 +20,32 @@ pub extern "C" fn trusshemp_session_size() -> usize
     ensures { λ r. ⌜ r ≡ 4 * words ⌝ }
 {
     4 * (FRONT + Store::CAPACITY + Store::WORDS)
+}
+
+// The number of the layout of a session's and a pool's memory. It goes up whenever a word is added, moved or means
+// something else, so that a host that keeps memory and reads it again can tell whether it was written by this layout.
+const LAYOUT: u32 = 1;
+
+// The number of the layout.
+#[no_mangle]
+pub extern "C" fn trusshemp_layout() -> u32
+    ensures { λ r. ⌜ r ≡ layout ⌝ }
+{
+    LAYOUT
+}
+
+// Whether the memory is a session in the normal form, by 1 or 0: what `trusshemp_fresh_in` makes and every call keeps.
+// Any words may be given; those of the sets do not matter.
+#[no_mangle]
+pub extern "C" fn trusshemp_is_normal_in(
+    front: &[u32; FRONT],
+    sets: &[u32; Store::CAPACITY],
+    store: &[u32; Store::WORDS],
+) -> u16
+    ensures { λ r. ⌜ SaysNormal r (memory (now (front .entry)) (now (sets .entry)) (now (store .entry))) ⌝ }
+{
+    let normal = session::is_normal(front, sets, store);
+    if normal { 1 } else { 0 }
 }
 
 // Makes the memory a fresh session, whatever it held.

@@ -1,4 +1,5 @@
--- One answer more behind those that are there: messages are answered one after the other, so their answers come one behind the other.
+-- One answer more behind those that are there: messages are answered one after the other, so their answers come one
+-- behind the other.
 use Prim.Native.Nat.{ℕ, _+_, _-_, _<_}
 use mathlib.Core.Path.{_≡_, refl, sym, ap, subst, _∙_}
 use mathlib.Core.List.{List, [], _∷_, _++_}

@@ -1,4 +1,5 @@
--- What a run reads are bytes: the input buffer is lent to each turn as `&mut [u8]`, and of a slice of u8 the kit knows that each element is below 256 (`slice-known`).
+-- What a run reads are bytes: the input buffer is lent to each turn as `&mut [u8]`, and of a slice of u8 the kit knows
+-- that each element is below 256 (`slice-known`).
 use Prim.Native.Nat.{ℕ, _<_}
 use mathlib.Core.Path.{_≡_, refl, ap, _∙_}
 use mathlib.Core.List.{List, [], _∷_}

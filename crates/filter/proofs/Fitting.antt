@@ -1,4 +1,5 @@
--- What is laid over a buffer that keeps its length is no longer than the buffer: its own bytes are there, and behind them the rest of the buffer's.
+-- What is laid over a buffer that keeps its length is no longer than the buffer: its own bytes are there, and behind
+-- them the rest of the buffer's.
 use Prim.Native.Nat.{ℕ, _+_, _-_, _≤_}
 use mathlib.Core.Path.{_≡_, sym, ap, _∙_}
 use mathlib.Core.List.{List}

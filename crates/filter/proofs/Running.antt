@@ -1,9 +1,9 @@
--- Turn after turn: all that was read so far is whole messages, answered, and what waits; where the run ends because no more is read, no whole message waits.
+-- Turn after turn: all that was read so far is whole messages, answered, and what waits; where the run ends because no
+-- more is read, no whole message waits.
 use Prim.Native.Nat.{ℕ}
 use mathlib.Core.Path.{_≡_, refl, sym, ap, ap₂, _∙_}
 use mathlib.Core.List.{List, [], _++_}
 use mathlib.Core.Bool.{true, false, not}
-use native.Mathlib.Omega.{arith}
 use lib.ListN.{take}
 use Rattle.paper.specs.Words.{allB}
 use Rattle.paper.proofs.Bools.{not-both}

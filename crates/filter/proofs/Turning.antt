@@ -58,7 +58,8 @@ module _ {S : Type 0} {M : Machine S} {s s′ : S} {taken made : ℕ} {written o
         room = λ z. absurd (omega arith);
       }
 
--- WHAT A PROGRAM'S TURN DOES, from what it answered and what it did behind that. The input has room for the longest message, and the output for one answer
+-- WHAT A PROGRAM'S TURN DOES, from what it answered and what it did behind that. The input has room for the longest
+-- message, and the output for one answer
 module _ {S : Type 0} {M : Machine S} {s s′ : S} {a : Answered} {r : After} {written output after : List ℕ} (held : ℕ) (before : List ℕ) (room : ℕ) (h : held ≤ length before)
     (bytes : (k : ℕ) → getD before k 0 < 256) (long : 65539 ≤ length before) (roomy : room ≤ length output) (k : a .taken ≤ length (take held before))
     (g : Answers M s (take held before) s′ (a .taken) (a .made) written output) (all : a .made + room ≤ length output → sizeOf (drop (a .taken) (take held before)) ≡ 0)

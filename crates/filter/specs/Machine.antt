@@ -1,4 +1,5 @@
--- A machine that answers messages one after the other: what it answers in each of its states, and the state that it is in then.
+-- A machine that answers messages one after the other: what it answers in each of its states, and the state that it is
+-- in then.
 use Prim.Native.Nat.{ℕ}
 use mathlib.Core.List.{List, [], _∷_}
 

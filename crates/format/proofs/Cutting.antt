@@ -11,7 +11,7 @@ use borrow.Author.Tests.{eqb-true, eqb-false, eq-eqb, ne-eqb, le-leb, lt-ltb}
 use Rattle.paper.specs.Words.{allB}
 use Rattle.paper.specs.Records.{lengthOf}
 use Rattle.paper.proofs.Bools.{split, both, left, right}
-use Rattle.format.specs.Cut.{sizeOf, joined, isWhole, Parts, behind, partsIn, parts, cut, restOf}
+use Rattle.format.specs.Cut.{sizeOf, joined, isWhole, Parts, behind, partsIn, parts, cut}
 use Rattle.format.proofs.Fitting.{size-fits, size-whole}
 
 -- a whole one in front is the first
@@ -133,12 +133,6 @@ cuts-in (suc n) l h =
 pub is-cut : (file : List ℕ) → IsCut file (parts file)
 is-cut file = cuts-in (length file) file (omega arith)
 
--- more bytes behind: what was cut stays, and the rest is cut on
-pub cut-on : (file more : List ℕ) → parts (file ++ more) ≡ behind (cut file) (parts (restOf file ++ more))
-cut-on file more =
-    let k = is-cut file in
-    ap (λ (x : List ℕ). parts (x ++ more)) (sym (k .joins)) ∙ ap parts (append-assoc (joined (cut file)) (restOf file) more) ∙ front-cut (cut file) (restOf file ++ more) (k .whole)
-
 -- one that is whole is cut off, whatever stands behind it
 pub cut-some : (x more : List ℕ) → 0 < sizeOf x → 0 < length (cut (x ++ more))
 unfolding joined allB
@@ -158,7 +152,8 @@ unfolding joined
 joined-append [] qs = refl
 joined-append (r ∷ rs) qs = ap (λ (x : List ℕ). r ++ x) (joined-append rs qs) ∙ sym (append-assoc r (joined rs) (joined qs))
 
--- all that was read so far, and behind it what a turn read, is those taken so far, those that the turn took, and what waits now
+-- all that was read so far, and behind it what a turn read, is those taken so far, those that the turn took, and what
+-- waits now
 pub joined-on : {all : List ℕ} (rs qs : List (List ℕ)) (waited more rest : List ℕ) → all ≡ joined rs ++ waited → waited ++ more ≡ joined qs ++ rest → all ++ more ≡ joined (rs ++ qs) ++ rest
 joined-on rs qs waited more rest a e =
     ap (λ (l : List ℕ). l ++ more) a
@@ -208,7 +203,8 @@ unfolding joined allB
 all-joined f [] a = refl
 all-joined f (r ∷ rs) a = let k = all-parts f r (joined rs) a in both (k .0) (all-joined f rs (k .1))
 
--- Bytes are lent as `&[u8]`, and of a slice of u8 the kit knows that each element is below 256 (`shared-slice-known`, `slice-known`): so they are a list of bytes
+-- Bytes are lent as `&[u8]`, and of a slice of u8 the kit knows that each element is below 256 (`shared-slice-known`,
+-- `slice-known`): so they are a list of bytes
 pub lent-bytes : (r : List ℕ) → ((k : ℕ) → getD r k 0 < 256) → allB (λ (b : ℕ). ltb b 256) r ≡ true
 unfolding allB
 lent-bytes [] h = refl

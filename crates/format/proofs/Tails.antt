@@ -1,5 +1,6 @@
--- The tail of a reply where it lies: its three parts stand behind their counts, and `readReply` reads it from the place that the kind and the counts tell. So code that
--- goes from place to place reads what the definitions read. Assumes nothing.
+-- The tail of a reply where it lies: its three parts stand behind their counts, and `readReply` reads it from the place
+-- that the kind and the counts tell. So code that goes from place to place reads what the definitions read. Assumes
+-- nothing.
 use Prim.Native.Nat.{ℕ, suc, _+_, _*_}
 use mathlib.Core.Path.{_≡_, ap, _∙_}
 use mathlib.Core.List.{List, _∷_, map}

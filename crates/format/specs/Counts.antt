@@ -5,7 +5,7 @@ use mathlib.Core.Bool.{cond}
 use lib.Dec.{ltb}
 use Rattle.paper.specs.WholeReply.{pastItems}
 
--- the place behind a count at a place and as many items of that width. "u16 body length, u16 kind, body" is at most 65539 bytes: a place from there on is
--- behind every reply, and stays
+-- the place behind a count at a place and as many items of that width. "u16 body length, u16 kind, body" is at most
+-- 65539 bytes: a place from there on is behind every reply, and stays
 abbrev pub pastCount : ℕ → List ℕ → ℕ → ℕ
 pastCount width r at = cond (ltb at 65539) (pastItems width r at) at

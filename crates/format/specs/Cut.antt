@@ -31,7 +31,9 @@ behind said p = record { whole = said ++ p .whole; rest = p .rest }
 -- at most n of them
 unfoldable pub partsIn : ℕ → List ℕ → Parts
 partsIn zero l = record { whole = []; rest = l }
-partsIn (suc n) l = cond (eqb (sizeOf l) 0) (record { whole = []; rest = l }) (behind (take (sizeOf l) l ∷ []) (partsIn n (drop (sizeOf l) l)))
+partsIn (suc n) l =
+    cond (eqb (sizeOf l) 0) (record { whole = []; rest = l })
+    (behind (take (sizeOf l) l ∷ []) (partsIn n (drop (sizeOf l) l)))
 
 -- a file cut by the heads in it; there are no more of them than bytes
 abbrev pub parts : List ℕ → Parts

@@ -28,7 +28,8 @@ beginFields r =
       lt = u8 r ltPlace;
     }
 
--- what was read of a lists record is what it says: of one list, but for its entry bytes, and before the entry bytes of both
+-- what was read of a lists record is what it says: of one list, but for its entry bytes, and before the entry bytes of
+-- both
 pub record AsksAs (a : Ask) (x : ListAsk) : Type 0 where
   pub uses : a .uses ≡ x .uses
   pub active : a .active ≡ x .active

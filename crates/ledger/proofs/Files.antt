@@ -1,4 +1,5 @@
--- The theorem in the program's terms: where `judged` answers 0, the two files keep demand 3, whoever wrote them; and it answers 0 on a session's own replies.
+-- The theorem in the program's terms: where `judged` answers 0, the two files keep demand 3, whoever wrote them; and it
+-- answers 0 on a session's own replies.
 use Prim.Native.Nat.{ℕ, _+_}
 use mathlib.Core.Path.{_≡_, refl, sym, ap, ap₂, _∙_}
 use mathlib.Core.List.{List, [], _∷_, append-nil}
@@ -51,9 +52,9 @@ record Even (rs answers : List (List ℕ)) (rest : ℕ) : Type 0 where
   even : length rs ≡ length answers
   done : rest ≡ 0
 
-even-of : (rs answers : List (List ℕ)) (rest : ℕ) → judgedOf rs answers rest .part ≡ 0 → Even rs answers rest
+even-of : (rs answers : List (List ℕ)) (left rest : ℕ) → judgedOf rs answers left rest .part ≡ 0 → Even rs answers rest
 unfolding judgedOf
-even-of rs answers rest z =
+even-of rs answers left rest z =
     split (eqb (exchanged rs answers .part) 0)
     (λ e.
     let k = last-none (length rs) (length answers) rest (rw e at z) in
@@ -68,7 +69,7 @@ pub record KeptFiles (records replies : List ℕ) : Type 0 where
 
 pub kept-files : (records replies : List ℕ) → judged records replies .part ≡ 0 → KeptFiles records replies
 kept-files records replies z =
-    let k = even-of (cut records) (cut replies) (length (restOf replies)) z in
+    let k = even-of (cut records) (cut replies) (length (restOf records)) (length (restOf replies)) z in
     record {
       kept = in-order-kept (pairs opening (cut records) (cut replies)) (pairs-again opening (cut records) (cut replies)) (watched-sound opening 0 blank (cut records) (cut replies) refl (k .none) .ok);
       even = k .even;
@@ -102,8 +103,8 @@ unfolding judgedOf first
 unbroken-file records answers z =
     let e = watched-even opening 0 blank (cut records) answers z .0 in
     let w = whole-replies opening 0 blank (cut records) answers z in
-    let p : judged records (joined answers) ≡ judgedOf (cut records) answers 0 =
-    ap (λ (q : Parts). judgedOf (cut records) (q .whole) (length (q .rest))) (one-cut answers [] (append-nil (joined answers)) w refl) in
+    let p : judged records (joined answers) ≡ judgedOf (cut records) answers (length (restOf records)) 0 =
+    ap (λ (q : Parts). judgedOf (cut records) (q .whole) (length (restOf records)) (length (q .rest))) (one-cut answers [] (append-nil (joined answers)) w refl) in
     let v : exchanged (cut records) answers .part ≡ 0 = ap (λ v. v .part) (all-exchanged (cut records) answers e) ∙ z in
     ap (λ x. x .part) p ∙ rw (eq-eqb _ 0 v, le-ltb (length (cut records)) (length answers) (omega arith), le-ltb (length answers) (length (cut records)) (omega arith))
 
@@ -114,6 +115,7 @@ cut-bytes records b =
     let f : ℕ → Bool = λ (x : ℕ). ltb x 256 in
     all-joined f (cut records) (all-parts f (joined (cut records)) (restOf records) (ap (allB f) (k .joins) ∙ b) .0)
 
--- ON THE REPLIES OF A SESSION TO ANY FILE OF RECORDS THE ANSWER IS 0. `replay-replies` (crates/replay) says that these are the replies of `replay`
+-- ON THE REPLIES OF A SESSION TO ANY FILE OF RECORDS THE ANSWER IS 0. `replay-replies` (crates/replay) says that these
+-- are the replies of `replay`
 pub session-files : (records : List ℕ) → allB (λ (b : ℕ). ltb b 256) records ≡ true → judged records (joined (replies fresh (cut records))) .part ≡ 0
 session-files records b = unbroken-file records (replies fresh (cut records)) (watched-session opening 0 fresh (cut records) sound-fresh (omega arith) (cut-bytes records b))

@@ -1,14 +1,17 @@
--- Exchanges that are heard are cut off in front, and what waits behind them is moved to the start: all that was read is still there.
+-- Exchanges that are heard are cut off in front, and what waits behind them is moved to the start: all that was read is
+-- still there.
 use Prim.Native.Nat.{ℕ, _+_, _-_, _≤_, min}
 use mathlib.Core.Path.{_≡_, refl, sym, ap, ap₂, subst, _∙_}
 use mathlib.Core.List.{List, [], _++_, append-assoc}
 use mathlib.Core.Bool.{true, false, _&&_, _||_}
 use native.Mathlib.Omega.{arith}
 use lib.Dec.{ltb, eqb}
-use lib.ListN.{length, take, drop, length-append}
-use lib.Seq.{take-all, take-append-add, length-take-le}
+use lib.ListN.{length, take, drop, getD, length-append}
+use lib.Seq.{take-all, take-append-add, length-take-le, getD-append-add}
 use borrow.Author.Tests.{eqb-true, eqb-false, lt-ltb, le-ltb}
+use Rattle.paper.specs.declared.Reading.{Reading}
 use Rattle.paper.specs.Reading.{opening, furtherAll}
+use Rattle.paper.specs.Blame.{blamed}
 use Rattle.paper.specs.Ledger.{blank}
 use Rattle.paper.specs.Watch.{Verdict, watched}
 use Rattle.paper.proofs.Bools.{split, not-both}
@@ -26,7 +29,7 @@ use Rattle.watch.specs.declared.exchanges.Paired.{Paired}
 use Rattle.watch.specs.Book.{bookIn, HoldsBook, noTally, most}
 use Rattle.watch.specs.Pairs.{tallyAll, Watches, WatchesAll}
 use Rattle.watch.proofs.Far.{length-none}
-use Rattle.watch.proofs.ExchangeLaws.{watched-even, tally-append}
+use Rattle.watch.proofs.ExchangeLaws.{is-ledger, same-blame, watched-even, tally-append}
 use Rattle.watch.proofs.Determined.{also}
 use Rattle.watch.proofs.Blocks.{next-block, next-place, next-book}
 use Rattle.ledger.specs.declared.State.{State}
@@ -79,6 +82,8 @@ module _ {p : Paired} (s : State) (records replies : List ℕ) (h : s .records .
         records = lessened (s .records) (p .taken);
         replies = lessened (s .replies) (p .answered);
         part = p .part;
+        named = p .blamed;
+        rest = 0;
         more = eqb (p .part) 0;
       }
 
@@ -115,6 +120,21 @@ module _ {p : Paired} (s : State) (records replies : List ℕ) (h : s .records .
         let w = sym (further-append opening (j .answers) t) ∙ ap (furtherAll opening) q in
         also w refl u (next-book opening blank (j .said) (j .answers) (j .unbroken) (j .book) heard)
 
+    -- what the last exchange of this turn names, if it breaks a part
+    named-both : (p .part ≡ 0 → ⊥) → p .blamed ≡ blamed (furtherAll opening (take (both .at) allAnswers)) (both .ledger) (getD allSaid (both .at) []) (getD allAnswers (both .at) [])
+    named-both w =
+        let e = next-place opening blank (j .said) (j .answers) (j .unbroken) (j .book) heard in
+        let n = watched-even opening 0 blank (j .said) (j .answers) (j .unbroken) in
+        let k : length (j .said) + p .pairs ≡ both .at = omega (arith, n .0, n .1) in
+        let m : length (j .answers) + p .pairs ≡ both .at = omega (arith, n .1) in
+        let x = sym (getD-append-add (j .said) (heard .said) (p .pairs) []) ∙ ap (λ (i : ℕ). getD allSaid i []) k in
+        let y = sym (getD-append-add (j .answers) (heard .answers) (p .pairs) []) ∙ ap (λ (i : ℕ). getD allAnswers i []) m in
+        let b = book-both in
+        heard .blamed w
+        ∙ ap₂ (blamed (p .book .reading) (bookIn (p .book))) x y
+        ∙ same-blame (is-ledger b) (p .book .reading) (getD allSaid (both .at) []) (getD allAnswers (both .at) [])
+        ∙ ap (λ (st : Reading). blamed st (both .ledger) (getD allSaid (both .at) []) (getD allAnswers (both .at) [])) (b .reading)
+
     module _ {records′ replies′ : List ℕ} (a : records′ ≡ shifted records (p .taken) (s .records .held))
         (b : replies′ ≡ shifted replies (p .answered) (s .replies .held)) where
       said-both : R ++ brought (s .records) (nextState .records) records′ ≡ joined allSaid ++ take (s .records .held - p .taken) records′
@@ -150,8 +170,8 @@ module _ {p : Paired} (s : State) (records replies : List ℕ) (h : s .records .
           let v =
           ap₂ judged c d
           ∙ judged-front allSaid allAnswers (all-append isWhole (j .said) (heard .said) (j .whole-said) (heard .whole-said)) (all-append isWhole (j .answers) (heard .answers) (j .whole-answers) (heard .whole-answers)) (x ++ more) (y ++ others)
-          ∙ broken-stands allSaid allAnswers even-both (cut (x ++ more)) (cut (y ++ others)) (length (restOf (y ++ others))) u in
-          rw v (record { part = part-both; number = number-both; book = book-both })
+          ∙ broken-stands allSaid allAnswers even-both (cut (x ++ more)) (cut (y ++ others)) (length (restOf (x ++ more))) (length (restOf (y ++ others))) u in
+          rw v (record { part = part-both; named = named-both w; rest = refl; number = number-both; book = book-both })
 
   -- where some were, one is
   some-taken : (p .taken ≡ 0 → ⊥) → exchangeWaits s records replies ≡ true

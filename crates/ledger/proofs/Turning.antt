@@ -1,4 +1,5 @@
--- A turn that hears nothing: a read goes behind what waits, so that all that was read is still there; an end is the answer of the files.
+-- A turn that hears nothing: a read goes behind what waits, so that all that was read is still there; an end is the
+-- answer of the files.
 use Prim.Native.Nat.{ℕ, _≤_, _<_, min}
 use mathlib.Core.Path.{_≡_, refl, sym, ap, ap₂, _∙_}
 use mathlib.Core.List.{List, [], _++_, append-nil, append-assoc}
@@ -21,7 +22,7 @@ use Rattle.stream.proofs.Sides.{Side, side-fed, side-same}
 use Rattle.watch.proofs.ExchangeLaws.{watched-even}
 use Rattle.ledger.specs.declared.State.{State}
 use Rattle.ledger.specs.Moves.{moveOf}
-use Rattle.ledger.specs.Verdict.{lastPart, judged}
+use Rattle.ledger.specs.Verdict.{lastPart, lastRest, judged}
 use Rattle.ledger.specs.Turns.{stateOf, wants, Went, Judging, Says, Keeps, exchangeWaits, Turned}
 use Rattle.ledger.proofs.Verdicts.{rest-decides, judged-front}
 
@@ -76,7 +77,7 @@ module _ (s : State) (records replies : List ℕ) (h : s .records .held ≤ leng
 
   -- a run that ends after a read could not read
   reads : {f g : Feed} {records′ replies′ : List ℕ} (more : Bool) → Side (s .records) records f records′ → Side (s .replies) replies g replies′
-      → (more ≡ false → f .failed ≡ false → g .failed ≡ false → ⊥) → Next (stateOf s f g 0 more) records′ replies′
+      → (more ≡ false → f .failed ≡ false → g .failed ≡ false → ⊥) → Next (stateOf s f g 0 0 more) records′ replies′
   reads more a b n =
       record {
         records-on = a .onward;
@@ -97,10 +98,10 @@ module _ (s : State) (records replies : List ℕ) (h : s .records .held ≤ leng
         ends = λ R A j m p q. absurd (n m p q);
       }
 
-  reads-records : {f : Feed} {after : List ℕ} → Fed (s .records) records f after → Next (stateOf s f (s .replies) 0 (not (f .failed))) after replies
+  reads-records : {f : Feed} {after : List ℕ} → Fed (s .records) records f after → Next (stateOf s f (s .replies) 0 0 (not (f .failed))) after replies
   reads-records {f} g = reads (not (f .failed)) (side-fed h g) (side-same (s .replies) replies k) (λ m p q. not-both (not (f .failed)) (ap not p) m)
 
-  reads-replies : {f : Feed} {after : List ℕ} → Fed (s .replies) replies f after → Next (stateOf s (s .records) f 0 (not (f .failed))) records after
+  reads-replies : {f : Feed} {after : List ℕ} → Fed (s .replies) replies f after → Next (stateOf s (s .records) f 0 0 (not (f .failed))) records after
   reads-replies {f} g = reads (not (f .failed)) (side-same (s .records) records h) (side-fed k g) (λ m p q. not-both (not (f .failed)) (ap not q) m)
 
   -- ---- the run ends where no exchange is whole
@@ -111,23 +112,28 @@ module _ (s : State) (records replies : List ℕ) (h : s .records .held ≤ leng
   abbrev answersOn : List ℕ → List ℕ
   answersOn = onFrom (s .replies) replies
 
-  -- the part is the one that what is left calls for
+  -- the part is the one that what is left calls for, and so is the rest
   abbrev LastPart : ℕ → List ℕ → List ℕ → Type 0
   LastPart part more others =
       (min (length (cut (saidOn more))) (length (cut (answersOn others))) ≡ 0) × (lastPart (length (cut (saidOn more))) (length (cut (answersOn others))) (length (restOf (answersOn others))) ≡ part)
+      × (lastRest part (length (restOf (saidOn more))) (length (restOf (answersOn others))) ≡ lastRest part (s .records .held) (s .replies .held))
 
-  says-last : {R A : List ℕ} (part : ℕ) (more others : List ℕ) → Judging s records replies R A → LastPart part more others → Says (stateOf s (s .records) (s .replies) part false) (judged (R ++ more) (A ++ others))
+  -- how the run ends with a part
+  abbrev ended : ℕ → State
+  ended part = stateOf s (s .records) (s .replies) part (lastRest part (s .records .held) (s .replies .held)) false
+
+  says-last : {R A : List ℕ} (part : ℕ) (more others : List ℕ) → Judging s records replies R A → LastPart part more others → Says (ended part) (judged (R ++ more) (A ++ others))
   says-last {R} {A} part more others j l =
       let e = watched-even opening 0 blank (j .said) (j .answers) (j .unbroken) .0 in
       let x = saidOn more in
       let y = answersOn others in
       let p : R ++ more ≡ joined (j .said) ++ x = ap (λ (q : List ℕ). q ++ more) (j .cut-said) ∙ append-assoc (joined (j .said)) (take (s .records .held) records) more in
       let q : A ++ others ≡ joined (j .answers) ++ y = ap (λ (q : List ℕ). q ++ others) (j .cut-answers) ∙ append-assoc (joined (j .answers)) (take (s .replies .held) replies) others in
-      let v = ap₂ judged p q ∙ judged-front (j .said) (j .answers) (j .whole-said) (j .whole-answers) x y ∙ rest-decides (j .said) (j .answers) e (cut x) (cut y) (length (restOf y)) (j .unbroken) (l .0) in
-      rw v (record { part = sym (l .1); number = j .number; book = j .book })
+      let v = ap₂ judged p q ∙ judged-front (j .said) (j .answers) (j .whole-said) (j .whole-answers) x y ∙ rest-decides (j .said) (j .answers) e (cut x) (cut y) (length (restOf x)) (length (restOf y)) (j .unbroken) (l .0) in
+      rw v (record { part = sym (l .1); named = refl; rest = sym (ap (λ (q : ℕ). lastRest q (length (restOf x)) (length (restOf y))) (l .1) ∙ l .2); number = j .number; book = j .book })
 
   stops : (part : ℕ) → ((more others : List ℕ) → (s .records .ended ≡ true → more ≡ []) → (s .replies .ended ≡ true → others ≡ []) → LastPart part more others)
-      → Next (stateOf s (s .records) (s .replies) part false) records replies
+      → Next (ended part) records replies
   stops part l =
       record {
         records-on = side-same (s .records) records h .onward;
@@ -144,33 +150,33 @@ module _ (s : State) (records replies : List ℕ) (h : s .records .held ≤ leng
       (ltb 0 (sizeOf (take (s .records .held) records)) ≡ said) × (s .records .ended ≡ allSaid) × (ltb 0 (sizeOf (take (s .replies .held) replies)) ≡ answered) × (s .replies .ended ≡ allAnswered)
       × (ltb 0 (s .replies .held) ≡ rest)
 
-  stops-18 : {x y : Bool} → Sizes false true true x y → Next (stateOf s (s .records) (s .replies) 18 false) records replies
+  stops-18 : {x y : Bool} → Sizes false true true x y → Next (ended 18) records replies
   stops-18 z =
       stops 18
       (λ more others c d.
       let a = none-cut (s .records) records (z .0) (z .1) c in
       let b = some-cut (s .replies) replies (z .2) others in
-      (omega arith, last-18 (length (cut (saidOn more))) (length (cut (answersOn others))) (length (restOf (answersOn others))) a b))
+      (omega arith, last-18 (length (cut (saidOn more))) (length (cut (answersOn others))) (length (restOf (answersOn others))) a b, refl))
 
-  stops-1 : {x y : Bool} → Sizes x y false true true → Next (stateOf s (s .records) (s .replies) 1 false) records replies
+  stops-1 : {x y : Bool} → Sizes x y false true true → Next (ended 1) records replies
   stops-1 z =
       stops 1
       (λ more others c d.
       let a = none-cut (s .replies) replies (z .2) (z .3) d in
       let b = left-over (s .replies) replies (z .2) (z .3) d k in
       let e = ltb-true 0 (s .replies .held) (z .4) in
-      (omega arith, last-1 (length (cut (saidOn more))) (length (cut (answersOn others))) (length (restOf (answersOn others))) a (omega arith)))
+      (omega arith, last-1 (length (cut (saidOn more))) (length (cut (answersOn others))) (length (restOf (answersOn others))) a (omega arith), b))
 
-  stops-17 : {x : Bool} → Sizes true x false true false → Next (stateOf s (s .records) (s .replies) 17 false) records replies
+  stops-17 : {x : Bool} → Sizes true x false true false → Next (ended 17) records replies
   stops-17 z =
       stops 17
       (λ more others c d.
       let a = none-cut (s .replies) replies (z .2) (z .3) d in
       let b = left-over (s .replies) replies (z .2) (z .3) d k in
       let e = ltb-false 0 (s .replies .held) (z .4) in
-      (omega arith, last-17 (length (cut (saidOn more))) (length (cut (answersOn others))) (length (restOf (answersOn others))) a (omega arith) (some-cut (s .records) records (z .0) more)))
+      (omega arith, last-17 (length (cut (saidOn more))) (length (cut (answersOn others))) (length (restOf (answersOn others))) a (omega arith) (some-cut (s .records) records (z .0) more), refl))
 
-  stops-0 : Sizes false true false true false → Next (stateOf s (s .records) (s .replies) 0 false) records replies
+  stops-0 : Sizes false true false true false → Next (ended 0) records replies
   stops-0 z =
       stops 0
       (λ more others c d.
@@ -178,13 +184,14 @@ module _ (s : State) (records replies : List ℕ) (h : s .records .held ≤ leng
       let b = left-over (s .replies) replies (z .2) (z .3) d k in
       let e = ltb-false 0 (s .replies .held) (z .4) in
       let f = none-cut (s .records) records (z .0) (z .1) c in
-      (omega arith, last-0 (length (cut (saidOn more))) (length (cut (answersOn others))) (length (restOf (answersOn others))) a (omega arith) f))
+      let g = left-over (s .records) records (z .0) (z .1) c h in
+      (omega arith, last-0 (length (cut (saidOn more))) (length (cut (answersOn others))) (length (restOf (answersOn others))) a (omega arith) f, g))
 
   -- ---- where no exchange is whole
 
   module _ {r : State} {records′ replies′ : List ℕ} where
-    stopped : {part : ℕ} → Next (stateOf s (s .records) (s .replies) part false) records replies
-        → (records′ ≡ records) × (replies′ ≡ replies) × (r ≡ stateOf s (s .records) (s .replies) part false) → Next r records′ replies′
+    stopped : {part : ℕ} → Next (ended part) records replies
+        → (records′ ≡ records) × (replies′ ≡ replies) × (r ≡ ended part) → Next r records′ replies′
     stopped t w = rw (w .0, w .1, w .2) t
 
     -- the move is the one that the sizes call for, and not both a whole record and a whole reply wait

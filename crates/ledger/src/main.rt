@@ -3,6 +3,7 @@
 // memory, and says `kept` or the first reply that breaks a part.
 mod text;
 
+use paper::Blamed;
 use stream::files::Feed;
 use watch::Book;
 ghost use mathlib.Core.Path.{_≡_};
@@ -10,18 +11,22 @@ ghost use Prim.Native.Nat.{_≤_};
 ghost use lib.ListN.{length};
 ghost use Rattle.ledger.specs.Moves.{moveOf};
 ghost use Rattle.ledger.specs.Turns.{stateOf, wants, Went, Turned, standing, Judges};
+ghost use Rattle.ledger.specs.Verdict.{lastRest};
 
 // A record or a reply has at most 65,539 bytes, so there is always room to read on behind one that is not whole yet.
 const INPUT: usize = 131072;
 
-// The book, how many exchanges broke nothing, the two files, the part that the next exchange breaks, and whether the
-// run goes on.
+// The book, how many exchanges broke nothing, the two files, the part that the next exchange breaks, the picture and
+// the surface that it does so with, how many bytes are told of a record or reply that is not whole, and whether the run
+// goes on.
 struct State {
     book: Book,
     number: u64,
     records: Feed,
     replies: Feed,
     part: u8,
+    named: Blamed,
+    rest: usize,
     more: bool,
 }
 
@@ -53,9 +58,21 @@ fn next_move(said: bool, all_said: bool, answered: bool, all_answered: bool, res
     if said { Move::Stop(17) } else { Move::Stop(0) }
 }
 
-// The same book and number, with these files and this part.
-fn fed(s: State, records: Feed, replies: Feed, part: u8, more: bool) -> State
-    ensures { λ r. ⌜ r ≡ stateOf s records replies part more ⌝ }
+// The bytes that a run which ends with this part tells of: those of a last record, which has no reply, or those of a
+// last reply.
+fn last_rest(part: u8, records: usize, replies: usize) -> usize
+    ensures { λ r. ⌜ r ≡ lastRest part records replies ⌝ }
+{
+    match part {
+        0 => records,
+        1 => replies,
+        _ => 0,
+    }
+}
+
+// The same book and number, with these files, this part and this rest, and nothing named.
+fn fed(s: State, records: Feed, replies: Feed, part: u8, rest: usize, more: bool) -> State
+    ensures { λ r. ⌜ r ≡ stateOf s records replies part rest more ⌝ }
 {
     let book = s.book;
     State {
@@ -64,6 +81,8 @@ fn fed(s: State, records: Feed, replies: Feed, part: u8, more: bool) -> State
         records,
         replies,
         part,
+        named: Blamed::Nothing,
+        rest,
         more,
     }
 }
@@ -78,13 +97,16 @@ fn go_on(s: State, m: Move, records: &mut [u8], replies: &mut [u8]) -> State
     match m {
         Move::Records => {
             let f = stream::files::read_on(a, records);
-            fed(s, f, b, 0, !f.failed)
+            fed(s, f, b, 0, 0, !f.failed)
         }
         Move::Replies => {
             let f = stream::files::read_on(b, replies);
-            fed(s, a, f, 0, !f.failed)
+            fed(s, a, f, 0, 0, !f.failed)
         }
-        Move::Stop(part) => fed(s, a, b, part, false),
+        Move::Stop(part) => {
+            let rest = last_rest(part, a.held, b.held);
+            fed(s, a, b, part, rest, false)
+        }
     }
 }
 
@@ -124,6 +146,7 @@ fn turn(s: State, records: &mut [u8], replies: &mut [u8]) -> State
     stream::shift(records, taken, n);
     stream::shift(replies, answered, k);
     let book = p.book;
+    let named = p.blamed;
     let x = stream::files::without(a, taken);
     let y = stream::files::without(b, answered);
     State {
@@ -132,6 +155,8 @@ fn turn(s: State, records: &mut [u8], replies: &mut [u8]) -> State
         records: x,
         replies: y,
         part: p.part,
+        named,
+        rest: 0,
         more: p.part == 0,
     }
 }
@@ -146,6 +171,8 @@ fn run(records_fd: i32, replies_fd: i32, records: &mut [u8], replies: &mut [u8])
         records: stream::files::unread(records_fd),
         replies: stream::files::unread(replies_fd),
         part: 0,
+        named: Blamed::Nothing,
+        rest: 0,
         more: true,
     };
     let mut left: u64 = 18446744073709551615;
@@ -156,7 +183,7 @@ fn run(records_fd: i32, replies_fd: i32, records: &mut [u8], replies: &mut [u8])
     s
 }
 
-// Both buffers are here, of one size for any length of the files.
+// The buffers and the names are here, of one size for any length of the files.
 fn main() {
     if os::arg_count() != 3 {
         io::write_all(2, b"usage: ledger RECORDS REPLIES\n");
@@ -169,22 +196,35 @@ fn main() {
     }
     let mut records = [0u8; INPUT];
     let mut replies = [0u8; INPUT];
+    let mut records_name = io::buffer();
+    let mut replies_name = io::buffer();
+    let n = os::arg(1, &mut records_name);
+    let m = os::arg(2, &mut replies_name);
     let s = run(a, b, &mut records, &mut replies);
-    finish(s);
+    finish(s, &records_name[..n], &replies_name[..m]);
 }
 
-// What is said at the end. A run that has not ended has no answer.
-fn finish(s: State) {
+// What is said at the end, of files of these names. A run that has not ended has no answer.
+fn finish(s: State, records: &[u8], replies: &[u8]) {
     let a = s.records;
     let b = s.replies;
     let book = s.book;
-    if a.failed | b.failed | s.more {
-        os::fail(b"ledger: a file");
+    if a.failed {
+        stream::files::unreadable(records, b"ledger");
+        return;
+    }
+    if b.failed {
+        stream::files::unreadable(replies, b"ledger");
+        return;
+    }
+    if s.more {
+        io::write_all(2, b"ledger: more reads than there are numbers of 64 bits\n");
         return;
     }
     if s.part != 0 {
-        text::broken(watch::plus(s.number, 1), s.part);
+        let named = s.named;
+        text::broken(watch::plus(s.number, 1), s.part, s.rest, named);
         return;
     }
-    text::kept(book, s.number);
+    text::kept(book, s.number, s.rest);
 }

@@ -1,4 +1,5 @@
 // What the program says, and the words for each part.
+use paper::Blamed;
 use watch::Book;
 
 // Says some words.
@@ -38,25 +39,68 @@ fn count(n: u64, what: &[u8]) {
     say(what);
 }
 
-// The reply, counted from 1, that breaks a part.
-pub(crate) fn broken(number: u64, part: u8) {
-    say(b"broken at reply ");
-    count(number, b": ");
-    say_part(part);
-    say(b" (part ");
-    count(part as u64, b")\n");
+// A number, the name of what is counted, with an s where the number is not 1, and the words behind it.
+fn count_named(n: u64, name: &[u8], behind: &[u8]) {
+    count(n, name);
+    if n != 1 {
+        say(b"s");
+    }
+    say(behind);
 }
 
-// The accounts of a recording that keeps demand 3.
-pub(crate) fn kept(b: Book, number: u64) {
+// Says which picture and surface are named, if any.
+fn say_named(x: Blamed) {
+    match x {
+        Blamed::Nothing => say(b""),
+        Blamed::Picture(n) => {
+            say(b": picture ");
+            count(n.0 as u64, b"");
+        }
+        Blamed::Surface(s) => {
+            say(b": surface ");
+            count(s.0 as u64, b"");
+        }
+        Blamed::Both(n, s) => {
+            say(b": picture ");
+            count(n.0 as u64, b" on surface ");
+            count(s.0 as u64, b"");
+        }
+    }
+}
+
+// The reply, counted from 1, that breaks a part, and what it does so with; `rest`: where the replies end within it, how
+// many bytes of it are there, else 0.
+pub(crate) fn broken(number: u64, part: u8, rest: usize, named: Blamed) {
+    say(b"broken at reply ");
+    count(number, b": ");
+    if rest == 0 {
+        say_part(part);
+    } else {
+        say(b"the replies end within it, after ");
+        count_named(rest as u64, b" byte", b"");
+    }
+    say(b" (part ");
+    count(part as u64, b")");
+    say_named(named);
+    say(b"\n");
+}
+
+// The accounts of a recording that keeps demand 3; `rest`: how many bytes of a last record are there that is not whole,
+// and has no reply.
+pub(crate) fn kept(b: Book, number: u64, rest: usize) {
     let t = b.tally;
     say(b"kept: ");
-    count(b.begun, b" pictures begun, ");
+    count_named(b.begun, b" picture", b" begun, ");
     count(t.handed, b" handed out, ");
     count(t.thrown, b" thrown away, ");
     count(watch::current(b) as u64, b" current, ");
     count(watch::waiting(b) as u64, b" waiting, ");
-    count(watch::surfaces(b) as u64, b" surfaces held, ");
-    count(t.lists, b" lists checked, ");
-    count(number, b" exchanges\n");
+    count_named(watch::surfaces(b) as u64, b" surface", b" held, ");
+    count_named(t.lists, b" list", b" checked, ");
+    count_named(t.refused, b" refusal", b", ");
+    count_named(number, b" exchange", b"\n");
+    if rest != 0 {
+        say(b"the records end with ");
+        count_named(rest as u64, b" byte", b" of a record that is not whole\n");
+    }
 }

@@ -1,4 +1,5 @@
--- Exchanges made of records and replies are made of their own records and replies: each reply is read with what those in front of it leave.
+-- Exchanges made of records and replies are made of their own records and replies: each reply is read with what those
+-- in front of it leave.
 use Prim.Native.Nat.{ℕ}
 use mathlib.Core.Path.{_≡_, refl, ap}
 use mathlib.Core.List.{List, [], _∷_, _++_, map}

@@ -1,4 +1,5 @@
--- Where the lines of a ledger come from: each was begun, on the surface and with the serial that it has now; the current one also with its output flag.
+-- Where the lines of a ledger come from: each was begun, on the surface and with the serial that it has now; the
+-- current one also with its output flag.
 use Prim.Native.Nat.{ℕ, _+_, _≤_}
 use mathlib.Core.Path.{_≡_, refl, sym, _∙_, subst}
 use mathlib.Core.List.{List, [], _∷_, append-nil}

@@ -1,4 +1,5 @@
--- Demand 3 says something: short exchanges, each under the sentence that it breaks. None of them is kept, and the sample that they differ from is.
+-- Demand 3 says something: short exchanges, each under the sentence that it breaks. None of them is kept, and the
+-- sample that they differ from is.
 use Prim.Native.Nat.{ℕ, _*_, _≤_}
 use mathlib.Core.Path.{_≡_, refl, ap}
 use mathlib.Core.List.{List, [], _∷_, _++_}
@@ -65,7 +66,8 @@ finish hs ns xs = call 4 (tailOf hs ns xs)
 abbrev drain : List (List ℕ) → List ℕ → List ℕ → Exchange
 drain hs ns xs = call 5 (tailOf hs ns xs)
 
--- the sample: picture 0 waits, then a begin that says "no output of prior pictures" throws it away; picture 1 is named, handed out and released
+-- the sample: picture 0 waits, then a begin that says "no output of prior pictures" throws it away; picture 1 is named,
+-- handed out and released
 abbrev pub sample : List Exchange
 sample = first0 ∷ finish [] [] [] ∷ beginning 8 15 1 [] (tailOf [] (0 ∷ []) (7 ∷ [])) ∷ listing (1 ∷ []) ∷ finish (shown 1 8 ∷ []) [] [] ∷ drain [] [] (8 ∷ []) ∷ []
 

@@ -1,4 +1,5 @@
--- Between records nothing is due by reorder or latency: a finish hands out until that holds, and nothing else makes one wait.
+-- Between records nothing is due by reorder or latency: a finish hands out until that holds, and nothing else makes one
+-- wait.
 use Prim.Native.Nat.{ℕ, zero, suc, _≤_, zero-le}
 use mathlib.Core.Path.{_≡_, refl, sym, ap, _∙_, subst}
 use mathlib.Core.Logic.{_⊎_, inl, inr, ⊎-elim}
@@ -227,7 +228,8 @@ module _ (s : Session) (r : List ℕ) (c : Quiet s) where
         abandon = λ k x e. record { calm = c };
       }) .calm
 
--- Between the records of any session from fresh, waiting ≤ reorder, and no waiting picture's count has reached the latency
+-- Between the records of any session from fresh, waiting ≤ reorder, and no waiting picture's count has reached the
+-- latency
 always-calm : (s : Session) (rs : List (List ℕ)) → Quiet s → Quiet (sessionAfter s rs)
 unfolding sessionAfter stepOf
 always-calm s [] c = c

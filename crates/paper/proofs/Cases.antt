@@ -1,5 +1,6 @@
 -- "Numbers to try": the twelve cases, one statement over one list, through the whole decision where a record can ask.
--- The definitions compute them. Then numbers 8 and 14 and large counts, which no short recording shows, and what an error near at hand would change.
+-- The definitions compute them. Then numbers 8 and 14 and large counts, which no short recording shows, and what an
+-- error near at hand would change.
 use mathlib.Core.Path.{_≡_, refl}
 use mathlib.Core.List.{List, [], _∷_, map}
 use mathlib.Core.Bool.{Bool, true, false}
@@ -27,8 +28,8 @@ use Rattle.paper.specs.RefLists.{list0, list1, noCandidate, tooMany, bad
 use Rattle.paper.specs.Calls.{raised}
 use Rattle.paper.specs.Step.{beginRefusal, beginOf, listsRefusal, listsOf, byKind, decideOf, stepOf}
 
--- POC of a begin with this k and lsb after the previous Tid0 picture q, Q; the POC that a long-term entry asks for, of k, POC, lsb and
--- cycle; the reply to a lists record of this body
+-- POC of a begin with this k and lsb after the previous Tid0 picture q, Q; the POC that a long-term entry asks for, of
+-- k, POC, lsb and cycle; the reply to a lists record of this body
 pub data Question : Type 0 where
   PocAfter : ℕ → ℕ → ℤ → ℕ → Question
   LongTerm : ℕ → ℤ → ℕ → ℕ → Question
@@ -104,7 +105,8 @@ pub twelve : map (λ (c : Case). ask (c .question)) cases ≡ map (λ (c : Case)
 unfolding keep allB anyB table first bit fieldsOf sliceOf wellFormed falling rising beginRanges listsRanges msbOf wishesOf wishesIn32 longSet shortSet markAll markOnly setsOf marksOf beforeDecoding noRasl outputFlag noPrior msb poc within markedStore roomMade begunCurrent list0 list1 noCandidate tooMany badEntry beginRefusal beginOf listsRefusal listsOf byKind decideOf
 twelve = refl
 
--- number 8: "the next serial would be 4,294,967,295": 4,294,967,294 is the last serial given. "begin 1, 3, 5, 8, 7, 6": 5 before 8, 8 before 7
+-- number 8: "the next serial would be 4,294,967,295": 4,294,967,294 is the last serial given. "begin 1, 3, 5, 8, 7, 6":
+-- 5 before 8, 8 before 7
 abbrev onSurface7 : Picture
 onSurface7 = record { serial = aSerial 6; surface = aSurface 7; poc = pos 0; mark = ShortTerm; waiting = false; count = 0 }
 
@@ -128,7 +130,8 @@ short n p c = record { serial = aSerial n; surface = aSurface n; poc = pos p; ma
 abbrev wish : ℕ → Bool → Wish
 wish p used = record { poc = pos p; used = used; whole = true }
 
--- four pictures, each asked for by a long-term entry, used or not, and by one of: neg used, neg unused, pos used, pos unused
+-- four pictures, each asked for by a long-term entry, used or not, and by one of: neg used, neg unused, pos used, pos
+-- unused
 abbrev four : List Picture
 four = short 1 3 0 ∷ short 2 2 0 ∷ short 3 6 0 ∷ short 4 7 0 ∷ []
 
@@ -143,8 +146,8 @@ none = 4294967295
 abbrev numbers : Sets → List (List ℕ)
 numbers x = serialNos (x .before) ∷ serialNos (x .after) ∷ serialNos (x .foll) ∷ serialNos (x .ltCurr) ∷ serialNos (x .ltFoll) ∷ []
 
--- "LtCurr, then LtFoll: .. Those found become long-term. Then Before, After, Foll: first short-term picture": the error "short-term search before
--- the long-term marks" finds the four
+-- "LtCurr, then LtFoll: .. Those found become long-term. Then Before, After, Foll: first short-term picture": the error
+-- "short-term search before the long-term marks" finds the four
 pub long-before-short : map (λ (used : Bool). numbers (setsOf 16 four (asksTwice used))) (true ∷ false ∷ [])
     ≡ ((none ∷ []) ∷ (none ∷ []) ∷ (none ∷ none ∷ []) ∷ (1 ∷ 2 ∷ 3 ∷ 4 ∷ []) ∷ [] ∷ [])
     ∷ ((none ∷ []) ∷ (none ∷ []) ∷ (none ∷ none ∷ []) ∷ [] ∷ (1 ∷ 2 ∷ 3 ∷ 4 ∷ []) ∷ [])
@@ -152,7 +155,8 @@ pub long-before-short : map (λ (used : Bool). numbers (setsOf 16 four (asksTwic
 unfolding keep anyB firstOf longSet shortSet markAll setsOf
 long-before-short = refl
 
--- "Every picture in none of the sets loses its mark": of two with one POC the one that no set has; the error "membership by POC" keeps both
+-- "Every picture in none of the sets loses its mark": of two with one POC the one that no set has; the error
+-- "membership by POC" keeps both
 pub by-picture : map (λ (p : Picture). p .mark) (marksOf 16 (short 1 2 0 ∷ short 2 2 0 ∷ []) (record { neg = wish 2 true ∷ []; pos = []; lt = [] })) ≡ ShortTerm ∷ Unmarked ∷ []
 unfolding keep anyB firstOf longSet shortSet markAll markOnly setsOf marksOf
 by-picture = refl

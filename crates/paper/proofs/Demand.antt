@@ -1,4 +1,5 @@
--- Demand 3, proved: the ledger told from a session's exchanges is a function of the session and in order, and the rest follows for any exchanges.
+-- Demand 3, proved: the ledger told from a session's exchanges is a function of the session and in order, and the rest
+-- follows for any exchanges.
 use mathlib.Core.Path.{sym, ap, _∙_}
 use Rattle.paper.specs.Reading.{opening}
 use Rattle.paper.specs.State.{fresh}

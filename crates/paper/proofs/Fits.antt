@@ -1,4 +1,5 @@
--- No reply is longer than 512 bytes and no store longer than 16, from any session of at most 16 stored pictures: a tail holds what the store held.
+-- No reply is longer than 512 bytes and no store longer than 16, from any session of at most 16 stored pictures: a tail
+-- holds what the store held.
 use Prim.Native.Nat.{ℕ, zero, suc, _+_, _-_, _%_, _≤_, _<_, zero-le, min}
 use mathlib.Core.Path.{_≡_, refl, ap, _∙_}
 use mathlib.Core.List.{List, [], _∷_, _++_, map}

@@ -1,5 +1,5 @@
--- In every session the previous Tid0 picture's MSB is a multiple of M and its lsb is below M; so the POC of an accepted begin is the nearest to its
--- predecessor's.
+-- In every session the previous Tid0 picture's MSB is a multiple of M and its lsb is below M; so the POC of an accepted
+-- begin is the nearest to its predecessor's.
 use Prim.Native.Nat.{ℕ, _-_, _/_, _≤_, _<_, min}
 use mathlib.Core.Path.{_≡_, refl, sym, ap, _∙_}
 use mathlib.Core.List.{List, [], _∷_}

@@ -1,5 +1,6 @@
--- The POC is the only whole number of remainder l in the window of M around the previous POC, for every M = 2^k at once: a multiple of M and a rest
--- below M are told apart, and the three cases of the MSB are the three ways into the window.
+-- The POC is the only whole number of remainder l in the window of M around the previous POC, for every M = 2^k at
+-- once: a multiple of M and a rest below M are told apart, and the three cases of the MSB are the three ways into the
+-- window.
 use mathlib.Core.Path.{_≡_, sym, ap, _∙_}
 use mathlib.Core.Bool.{Bool, true, false, cond, not, _&&_}
 use mathlib.Core.Logic.{_⊎_, inl, inr, ⊎-elim}

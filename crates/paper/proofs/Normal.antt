@@ -1,4 +1,5 @@
--- Stored ≤ capacity ≤ 16 and k ≤ 16 in every session from fresh, and no count past 2,147,483,647: such a session is its own normal form.
+-- Stored ≤ capacity ≤ 16 and k ≤ 16 in every session from fresh, and no count past 2,147,483,647: such a session is its
+-- own normal form.
 use Prim.Native.Nat.{ℕ, _+_, _≤_, min, zero-le}
 use mathlib.Core.Path.{_≡_, refl}
 use mathlib.Core.List.{List, [], _∷_, _++_, map}

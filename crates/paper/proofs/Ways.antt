@@ -1,4 +1,5 @@
--- The ways out of a decision: what holds of each holds of what is decided. Every theorem over the eight kinds is one record of these fields.
+-- The ways out of a decision: what holds of each holds of what is decided. Every theorem over the eight kinds is one
+-- record of these fields.
 use Prim.Native.Nat.{ℕ, _+_, _≤_, _<_}
 use mathlib.Core.Path.{_≡_, refl, sym}
 use mathlib.Core.List.{List, [], _∷_}

@@ -60,7 +60,10 @@ releasedAll (x ∷ xs) = surfaceNos (tailIn (replyIn x) .released) ++ releasedAl
 -- Each picture begun with output flag 1 is current or waiting, handed out once, or thrown away, exactly one of these;
 -- each surface was begun as often as it was released, and once more where it is held
 pub record Accounts (xs : List Exchange) (L : Ledger) : Type 0 where
-  pub pictures : (n : ℕ) → count n (serials (wanting (begunAll xs))) ≡ count n (serials (wanting (L .held ++ L .current))) + (count n (handedAll xs) + count n (thrownAll xs))
+  pub pictures : (n : ℕ)
+      → count n (serials (wanting (begunAll xs))) ≡ count n
+      (serials (wanting (L .held ++ L .current))) + (count n (handedAll xs) + count n (thrownAll xs))
   pub once : (n : ℕ) → count n (serials (begunAll xs)) ≤ 1
-  pub memory : (x : ℕ) → count x (surfaces (begunAll xs)) ≡ count x (surfaces (L .held ++ L .current)) + count x (releasedAll xs)
+  pub memory : (x : ℕ)
+      → count x (surfaces (begunAll xs)) ≡ count x (surfaces (L .held ++ L .current)) + count x (releasedAll xs)
   pub held-once : (x : ℕ) → count x (surfaces (L .held ++ L .current)) ≤ 1

@@ -18,11 +18,26 @@ use Rattle.paper.specs.Output.{Tail, Moved, quiet, joined, still, andThe
 -- Finish: "every stored count rises by 1, stopping at 2,147,483,647"
 abbrev pub raised : Picture → Picture
 raised p =
-    record { serial = p .serial; surface = p .surface; poc = p .poc; mark = p .mark; waiting = p .waiting; count = cond (ltb (p .count) countLimit) (p .count + 1) countLimit }
+    record {
+      serial = p .serial;
+      surface = p .surface;
+      poc = p .poc;
+      mark = p .mark;
+      waiting = p .waiting;
+      count = cond (ltb (p .count) countLimit) (p .count + 1) countLimit;
+    }
 
 -- "the picture is stored short-term, count 0, waiting if its output flag is 1"
 abbrev pub stored : Current → Picture
-stored c = record { serial = c .serial; surface = c .surface; poc = c .poc; mark = Mark.ShortTerm; waiting = c .output; count = 0 }
+stored c =
+    record {
+      serial = c .serial;
+      surface = c .surface;
+      poc = c .poc;
+      mark = Mark.ShortTerm;
+      waiting = c .output;
+      count = 0;
+    }
 
 -- "Then hand out while due, without the buffering test."
 unfoldable pub finished : Limits → List Picture → Current → Moved
@@ -40,8 +55,8 @@ full s = leb (taken16 (s .limits) .capacity) (length (s .store))
 unfoldable pub drained : Limits → List Picture → Now → Moved
 drained l ps x = andThen (onNow x (still ps) (finished l ps)) emptied
 
--- "Discard throws away and releases the current picture first, then clears." "Thrown away are only a current picture with output
--- flag 1 and stored pictures still waiting; others are merely released."
+-- "Discard throws away and releases the current picture first, then clears." "Thrown away are only a current picture
+-- with output flag 1 and stored pictures still waiting; others are merely released."
 abbrev pub dropped : Current → Tail
 dropped c = record { handed = []; thrown = cond (c .output) (c .serial ∷ []) []; released = c .surface ∷ [] }
 
@@ -51,7 +66,17 @@ discarded ps x = record { pics = []; tail = joined (onNow x quiet dropped) (clea
 -- The sessions after: with no picture current, these stored and this previous Tid0 picture
 abbrev pub idleWith : Session → List Picture → Prev → Session
 idleWith s ps q =
-    record { configured = s .configured; limits = s .limits; store = ps; current = Now.Idle; refs = noRefs; prev = q; atStart = s .atStart; ended = s .ended; next = s .next }
+    record {
+      configured = s .configured;
+      limits = s .limits;
+      store = ps;
+      current = Now.Idle;
+      refs = noRefs;
+      prev = q;
+      atStart = s .atStart;
+      ended = s .ended;
+      next = s .next;
+    }
 
 abbrev pub finishedSession : Session → Current → Session
 finishedSession s c = idleWith s (finished (s .limits) (s .store) c .pics) (prevAfter (s .prev) c)

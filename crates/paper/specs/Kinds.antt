@@ -1,4 +1,5 @@
--- Records and replies in bytes: their kinds, the places of their parts and the widths of these. Each number is written once, here.
+-- Records and replies in bytes: their kinds, the places of their parts and the widths of these. Each number is written
+-- once, here.
 use Prim.Native.Nat.{ℕ, _+_, _*_}
 use mathlib.Core.List.{List}
 use Rattle.paper.specs.Numbers.{u8}
@@ -46,7 +47,8 @@ kindPlace = 2
 abbrev pub bodyPlace : ℕ
 bodyPlace = 4
 
--- of a reply: "its body starts with a u16 refusal number". A refusal ends behind it; the rest of an accepted reply begins there.
+-- of a reply: "its body starts with a u16 refusal number". A refusal ends behind it; the rest of an accepted reply
+-- begins there.
 abbrev pub numberPlace : ℕ
 numberPlace = bodyPlace
 
@@ -80,7 +82,8 @@ latencyPlace = reorderPlace + 1
 abbrev pub configureLength : ℕ
 configureLength = 6
 
--- begin: "NAL type u8, temporal id u8, flags u8, lsb u16, surface u32, counts neg, pos, lt u8 each": twelve bytes, and the entries behind them
+-- begin: "NAL type u8, temporal id u8, flags u8, lsb u16, surface u32, counts neg, pos, lt u8 each": twelve bytes, and
+-- the entries behind them
 abbrev pub nalPlace : ℕ
 nalPlace = bodyPlace
 
@@ -111,7 +114,8 @@ entriesPlace = ltPlace + 1
 abbrev pub beginLength : ℕ
 beginLength = 12
 
--- "then per neg, then per pos: delta i32, used u8; per lt: lsb u16, flags u8, cycle u32": where each part of an entry stands in it, and its width
+-- "then per neg, then per pos: delta i32, used u8; per lt: lsb u16, flags u8, cycle u32": where each part of an entry
+-- stands in it, and its width
 abbrev pub entryUsed : ℕ
 entryUsed = wordWidth
 
@@ -146,8 +150,8 @@ entryBytesPlace = active1Place + 1
 abbrev pub sliceLength : ℕ
 sliceLength = 4
 
--- what an accepted begin says behind its number, from there on: "POC i32, flags u8, .. serial u32, five u8 counts, .. their members in that order
--- as u32 serials, the tail"
+-- what an accepted begin says behind its number, from there on: "POC i32, flags u8, .. serial u32, five u8 counts, ..
+-- their members in that order as u32 serials, the tail"
 abbrev pub begunFlags : ℕ
 begunFlags = wordWidth
 

@@ -10,7 +10,9 @@ use Rattle.paper.specs.declared.Shown.{Shown}
 use Rattle.paper.specs.declared.Line.{Line}
 use Rattle.paper.specs.Words.{keep, allB, anyB}
 use Rattle.paper.specs.Numbers.{u8, u16, u32, i32, bit, missing, aSerial, aSurface, sameSerial}
-use Rattle.paper.specs.Kinds.{beginKind, listsKind, finishKind, discardKind, endKind, abandonKind, replyOffset, replyTo, malformedReply, numberPlace, restPlace, listsPlace, surfacePlace, begunFlags, begunSerial, begunCounts, begunMembers, fiveCounts, wordWidth}
+use Rattle.paper.specs.Kinds.{beginKind, listsKind, finishKind, discardKind, endKind, abandonKind, replyOffset}
+use Rattle.paper.specs.Kinds.{replyTo, malformedReply, numberPlace, restPlace, listsPlace, surfacePlace}
+use Rattle.paper.specs.Kinds.{begunFlags, begunSerial, begunCounts, begunMembers, fiveCounts, wordWidth}
 use Rattle.paper.specs.Records.{kindOf}
 use Rattle.paper.specs.Poc.{eqZ}
 use Rattle.paper.specs.Sets.{Sets, inOrder}
@@ -30,7 +32,9 @@ readSerials n bs = map aSerial (readWords n bs)
 
 unfoldable pub readShown : Reading → ℕ → List ℕ → List Shown
 readShown st zero bs = []
-readShown st (suc n) bs = record { serial = aSerial (u32 bs 0); surface = aSurface (u32 bs wordWidth); poc = i32 bs (2 * wordWidth) } ∷ readShown st n (drop (shownWidthIn st) bs)
+readShown st (suc n) bs =
+    record { serial = aSerial (u32 bs 0); surface = aSurface (u32 bs wordWidth); poc = i32 bs (2 * wordWidth) }
+    ∷ readShown st n (drop (shownWidthIn st) bs)
 
 -- a count, and as many serials or surfaces; behind it another
 unfoldable pub readReleased : List ℕ → List ℕ
@@ -41,7 +45,9 @@ readTail st bs =
     record {
       handed = readShown st (u8 bs 0) (drop 1 bs);
       thrown = map aSerial (readReleased (drop (shownWidthIn st * u8 bs 0) (drop 1 bs)));
-      released = map aSurface (readReleased (drop (wordWidth * u8 (drop (shownWidthIn st * u8 bs 0) (drop 1 bs)) 0) (drop 1 (drop (shownWidthIn st * u8 bs 0) (drop 1 bs)))));
+      released =
+          map aSurface (readReleased (drop (wordWidth * u8 (drop (shownWidthIn st * u8 bs 0) (drop 1 bs)) 0)
+          (drop 1 (drop (shownWidthIn st * u8 bs 0) (drop 1 bs)))));
     }
 
 -- five counts and the words behind them
@@ -52,7 +58,8 @@ readSets a b c d e ws =
       after = readSerials b (drop (wordWidth * a) ws);
       foll = readSerials c (drop (wordWidth * b) (drop (wordWidth * a) ws));
       ltCurr = readSerials d (drop (wordWidth * c) (drop (wordWidth * b) (drop (wordWidth * a) ws)));
-      ltFoll = readSerials e (drop (wordWidth * d) (drop (wordWidth * c) (drop (wordWidth * b) (drop (wordWidth * a) ws))));
+      ltFoll =
+          readSerials e (drop (wordWidth * d) (drop (wordWidth * c) (drop (wordWidth * b) (drop (wordWidth * a) ws))));
     }
 
 unfoldable pub readBegun : List ℕ → Begun
@@ -64,7 +71,9 @@ readBegun bs =
       valid = bit 2 (u8 bs begunFlags);
       noPrior = bit 3 (u8 bs begunFlags);
       serial = aSerial (u32 bs begunSerial);
-      sets = readSets (u8 bs begunCounts) (u8 bs (begunCounts + 1)) (u8 bs (begunCounts + 2)) (u8 bs (begunCounts + 3)) (u8 bs (begunCounts + 4)) (drop begunMembers bs);
+      sets =
+          readSets (u8 bs begunCounts) (u8 bs (begunCounts + 1)) (u8 bs (begunCounts + 2)) (u8 bs (begunCounts + 3))
+          (u8 bs (begunCounts + 4)) (drop begunMembers bs);
     }
 
 abbrev pub setWords : List ℕ → ℕ
@@ -73,8 +82,12 @@ setWords bs = fiveCounts bs begunCounts
 unfoldable pub readReply : Reading → List ℕ → Reply
 readReply st bs =
     cond (not (eqb (u16 bs numberPlace) 0)) (Reply.Refused (kindOf bs) (u16 bs numberPlace))
-    (cond (eqb (kindOf bs) (replyTo beginKind)) (Reply.Started (readBegun (drop restPlace bs)) (readTail st (drop (wordWidth * setWords (drop restPlace bs)) (drop begunMembers (drop restPlace bs)))))
-    (cond (eqb (kindOf bs) (replyTo listsKind)) (Reply.Listed (readSerials (u8 bs restPlace) (drop listsPlace bs)) (readSerials (u8 bs (restPlace + 1)) (drop (wordWidth * u8 bs restPlace) (drop listsPlace bs))))
+    (cond (eqb (kindOf bs) (replyTo beginKind))
+    (Reply.Started (readBegun (drop restPlace bs))
+    (readTail st (drop (wordWidth * setWords (drop restPlace bs)) (drop begunMembers (drop restPlace bs)))))
+    (cond (eqb (kindOf bs) (replyTo listsKind))
+    (Reply.Listed (readSerials (u8 bs restPlace) (drop listsPlace bs))
+    (readSerials (u8 bs (restPlace + 1)) (drop (wordWidth * u8 bs restPlace) (drop listsPlace bs))))
     (Reply.Done (kindOf bs - replyOffset) (readTail st (drop restPlace bs)))))
 
 -- The ledger: a line for each picture whose surface is unreleased since its begin.
@@ -97,7 +110,8 @@ pub data Event : Type 0 where
   Free : Surface → Event
 
 abbrev pub waitsAs : Shown → Line → Bool
-waitsAs x e = e .wants && (eqb (x .serial .0) (e .serial .0) && (eqb (x .surface .0) (e .surface .0) && eqZ (x .poc) (e .poc)))
+waitsAs x e =
+    e .wants && (eqb (x .serial .0) (e .serial .0) && (eqb (x .surface .0) (e .surface .0) && eqZ (x .poc) (e .poc)))
 
 abbrev pub waits : ℕ → Line → Bool
 waits n e = e .wants && eqb n (e .serial .0)
@@ -108,14 +122,21 @@ lies x e = eqb x (e .surface .0)
 abbrev pub quietAt : ℕ → Line → Bool
 quietAt x e = not (e .wants) || not (lies x e)
 
--- handed out: a picture that waits, with its surface and POC; thrown away: one that waits; released: a surface that is held, and by none that waits
+-- handed out: a picture that waits, with its surface and POC; thrown away: one that waits; released: a surface that is
+-- held, and by none that waits
 unfoldable pub may : Event → List Line → Bool
 may (Hand x) H = anyB (waitsAs x) H
 may (Throw n) H = anyB (waits (n .0)) H
 may (Free x) H = anyB (lies (x .0)) H && allB (quietAt (x .0)) H
 
 abbrev pub off : ℕ → Line → Line
-off n e = record { serial = e .serial; surface = e .surface; poc = e .poc; wants = e .wants && not (eqb n (e .serial .0)) }
+off n e =
+    record {
+      serial = e .serial;
+      surface = e .surface;
+      poc = e .poc;
+      wants = e .wants && not (eqb n (e .serial .0));
+    }
 
 unfoldable pub free : ℕ → List Line → List Line
 free x H = keep (λ (e : Line). not (lies x e)) H
@@ -144,8 +165,8 @@ none (x ∷ xs) = false
 unfoldable pub names : List Serial → List Line → Bool
 names ns H = allB (λ (n : Serial). sameSerial n missing || anyB (λ (e : Line). eqb (n .0) (e .serial .0)) H) ns
 
--- "clear if no output of prior pictures (those waiting are thrown away)": a begin throws away only where its reply says so; then it
--- hands nothing out and leaves none of the stored pictures, H
+-- "clear if no output of prior pictures (those waiting are thrown away)": a begin throws away only where its reply says
+-- so; then it hands nothing out and leaves none of the stored pictures, H
 abbrev pub clearing : Begun → Tail → List Line → Bool
 clearing b t H = none (t .thrown) || (b .noPrior && (none (t .handed) && none H))
 
@@ -162,7 +183,8 @@ landed kind L t =
       begun = L .begun;
       ok =
           L .ok && (mayAll (events t) (L .held ++ L .current)
-          && ((none (t .thrown) || eqb kind discardKind) && ((none (uponAll (events t) (L .held ++ L .current)) || eqb kind finishKind)
+          && ((none (t .thrown) || eqb kind discardKind)
+          && ((none (uponAll (events t) (L .held ++ L .current)) || eqb kind finishKind)
           && (not (none (L .current)) || not (eqb kind finishKind)))));
     }
 
@@ -173,7 +195,9 @@ abandoned L t =
       held = L .held;
       current = [];
       begun = L .begun;
-      ok = L .ok && (not (none (L .current)) && (mayAll (events t) (L .current) && none (uponAll (events t) (L .current))));
+      ok =
+          L .ok && (not (none (L .current))
+          && (mayAll (events t) (L .current) && none (uponAll (events t) (L .current))));
     }
 
 -- end of sequence: nothing
@@ -182,19 +206,26 @@ unchanged L t = record { held = L .held; current = L .current; begun = L .begun;
 
 unfoldable pub tell : Ledger → List ℕ → Reply → Ledger
 tell L r (Reply.Refused kind n) = L
-tell L r (Reply.Done kind t) = cond (eqb kind endKind) (unchanged L t) (cond (eqb kind abandonKind) (abandoned L t) (landed kind L t))
+tell L r (Reply.Done kind t) =
+    cond (eqb kind endKind) (unchanged L t) (cond (eqb kind abandonKind) (abandoned L t) (landed kind L t))
 tell L r (Reply.Started b t) =
     record {
       held = uponAll (events t) (L .held);
       current = lineOf r b ∷ [];
       begun = L .begun + 1;
       ok =
-          L .ok && (none (L .current) && (eqb (b .serial .0) (L .begun) && (not (anyB (lies (u32 r surfacePlace)) (L .held))
+          L .ok && (none (L .current) && (eqb (b .serial .0) (L .begun)
+          && (not (anyB (lies (u32 r surfacePlace)) (L .held))
           && (mayAll (events t) (L .held) && (clearing b t (uponAll (events t) (L .held))
           && names (inOrder (b .sets)) (uponAll (events t) (L .held)))))));
     }
 tell L r (Reply.Listed l0 l1) =
-    record { held = L .held; current = L .current; begun = L .begun; ok = L .ok && (not (none (L .current)) && names (l0 ++ l1) (L .held ++ L .current)) }
+    record {
+      held = L .held;
+      current = L .current;
+      begun = L .begun;
+      ok = L .ok && (not (none (L .current)) && names (l0 ++ l1) (L .held ++ L .current));
+    }
 
 -- the reply is one to that record: its kind is the one for the record's kind, or that of number 13
 unfoldable pub heard : List ℕ → Reply → Bool
@@ -204,7 +235,13 @@ heard r (Reply.Started b t) = eqb beginKind (kindOf r)
 heard r (Reply.Listed l0 l1) = eqb listsKind (kindOf r)
 
 abbrev pub hear : Ledger → List ℕ → Reply → Ledger
-hear L r x = record { held = tell L r x .held; current = tell L r x .current; begun = tell L r x .begun; ok = heard r x && tell L r x .ok }
+hear L r x =
+    record {
+      held = tell L r x .held;
+      current = tell L r x .current;
+      begun = tell L r x .begun;
+      ok = heard r x && tell L r x .ok;
+    }
 
 -- a record and the bytes of its reply, and what the reader of the replies carries in front of that one
 pub record Exchange : Type 0 where

@@ -21,3 +21,4 @@ pub mod WholeReply
 pub mod Accounts
 pub mod Statement
 pub mod Watch
+pub mod Blame

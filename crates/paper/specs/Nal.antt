@@ -3,7 +3,8 @@ use Prim.Native.Nat.{ℕ, _%_}
 use mathlib.Core.Bool.{Bool, _&&_, _||_}
 use lib.Dec.{leb, eqb}
 
--- "IRAP 16 to 21, BLA 16 to 18, IDR 19 and 20, CRA 21, RADL 6 and 7, RASL 8 and 9, sub-layer non-reference 0, 2, 4, 6, 8"
+-- "IRAP 16 to 21, BLA 16 to 18, IDR 19 and 20, CRA 21, RADL 6 and 7, RASL 8 and 9, sub-layer non-reference 0, 2, 4, 6,
+-- 8"
 abbrev pub irap : ℕ → Bool
 irap t = leb 16 t && leb t 21
 

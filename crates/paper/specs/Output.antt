@@ -15,7 +15,8 @@ use Rattle.paper.specs.declared.Limits.{Limits}
 use Rattle.paper.specs.Words.{keep, anyB}
 use Rattle.paper.specs.State.{isMarked}
 
--- "A tail is: .. each picture handed out; .. serials thrown away; .. surfaces released. Each part is in the order it happened"
+-- "A tail is: .. each picture handed out; .. serials thrown away; .. surfaces released. Each part is in the order it
+-- happened"
 pub record Tail : Type 0 where
   pub handed : List Shown
   pub thrown : List Serial
@@ -26,7 +27,12 @@ quiet = record { handed = []; thrown = []; released = [] }
 
 -- what happened first and what happened then
 abbrev pub joined : Tail → Tail → Tail
-joined a b = record { handed = a .handed ++ b .handed; thrown = a .thrown ++ b .thrown; released = a .released ++ b .released }
+joined a b =
+    record {
+      handed = a .handed ++ b .handed;
+      thrown = a .thrown ++ b .thrown;
+      released = a .released ++ b .released;
+    }
 
 -- the pictures that are left, and what happened
 pub record Moved : Type 0 where
@@ -58,7 +64,15 @@ shown p = record { serial = p .serial; surface = p .surface; poc = p .poc }
 
 -- "it no longer waits": the picture of that serial
 abbrev pub done : ℕ → Picture → Picture
-done n p = record { serial = p .serial; surface = p .surface; poc = p .poc; mark = p .mark; waiting = p .waiting && not (eqb n (p .serial .0)); count = p .count }
+done n p =
+    record {
+      serial = p .serial;
+      surface = p .surface;
+      poc = p .poc;
+      mark = p .mark;
+      waiting = p .waiting && not (eqb n (p .serial .0));
+      count = p .count;
+    }
 
 -- "and leaves the store if unmarked". "Leaving the store releases the surface."
 abbrev pub leave : List Picture → Picture → Moved
@@ -69,7 +83,11 @@ leave ps p =
     }
 
 abbrev pub stay : List Picture → Picture → Moved
-stay ps p = record { pics = map (done (p .serial .0)) ps; tail = record { handed = shown p ∷ []; thrown = []; released = [] } }
+stay ps p =
+    record {
+      pics = map (done (p .serial .0)) ps;
+      tail = record { handed = shown p ∷ []; thrown = []; released = [] };
+    }
 
 -- `always`: "each leaving even if marked". Where none waits, nothing happens.
 abbrev pub handFound : Bool → List Picture → Found → Moved
@@ -84,7 +102,12 @@ unfoldable pub cleared : List Picture → Moved
 cleared ps =
     record {
       pics = [];
-      tail = record { handed = []; thrown = map (λ (p : Picture). p .serial) (keep (λ (p : Picture). p .waiting) ps); released = map (λ (p : Picture). p .surface) ps };
+      tail =
+          record {
+            handed = [];
+            thrown = map (λ (p : Picture). p .serial) (keep (λ (p : Picture). p .waiting) ps);
+            released = map (λ (p : Picture). p .surface) ps;
+          };
     }
 
 -- "Emptying hands out all that wait this way, each leaving even if marked, then clears."
@@ -99,7 +122,12 @@ unfoldable pub removed : List Picture → Moved
 removed ps =
     record {
       pics = keep inUse ps;
-      tail = record { handed = []; thrown = []; released = map (λ (p : Picture). p .surface) (keep (λ (p : Picture). not (inUse p)) ps) };
+      tail =
+          record {
+            handed = [];
+            thrown = [];
+            released = map (λ (p : Picture). p .surface) (keep (λ (p : Picture). not (inUse p)) ps);
+          };
     }
 
 -- "Due: waiting > reorder; or latency ≠ 0 and a waiting picture's count ≥ latency;
@@ -117,7 +145,8 @@ abbrev pub due : Bool → Limits → List Picture → Bool
 due true l = dueFull l
 due false l = dueLate l
 
--- "hand out while one is due and one waits": so many turns are enough, and a turn in which none is due or none waits does nothing
+-- "hand out while one is due and one waits": so many turns are enough, and a turn in which none is due or none waits
+-- does nothing
 unfoldable pub handWhile : (List Picture → Bool) → List Picture → Moved
 handWhile f ps = turns (length ps) (λ (qs : List Picture). cond (f qs) (handOut false qs) (still qs)) ps
 

@@ -15,7 +15,8 @@ use Rattle.paper.specs.Nal.{taken, irap, idr}
 use Rattle.paper.specs.State.{taken16}
 use Rattle.paper.specs.Records.{Fields, ListAsk, Slice}
 
--- "k 4 to 16, capacity at least 1 (more than 16 is taken as 16), buffering 1 to the taken capacity, reorder below buffering"
+-- "k 4 to 16, capacity at least 1 (more than 16 is taken as 16), buffering 1 to the taken capacity, reorder below
+-- buffering"
 unfoldable pub configureRanges : Limits → Bool
 configureRanges l =
     leb 4 (l .k) && leb (l .k) 16 && leb 1 (l .capacity)

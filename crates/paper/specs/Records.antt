@@ -12,9 +12,11 @@ use Rattle.paper.specs.Words.{table}
 use Rattle.paper.specs.Numbers.{u8, u16, u32, i32, bit, aSurface, bodyLimit}
 use Rattle.paper.specs.Kinds.{configureKind, beginKind, listsKind, finishKind, abandonKind, kindPlace, bodyPlace}
 use Rattle.paper.specs.Kinds.{kPlace, capacityPlace, bufferingPlace, reorderPlace, latencyPlace, configureLength}
-use Rattle.paper.specs.Kinds.{nalPlace, tidPlace, beginFlagsPlace, lsbPlace, surfacePlace, negPlace, posPlace, ltPlace, entriesPlace, beginLength}
+use Rattle.paper.specs.Kinds.{nalPlace, tidPlace, beginFlagsPlace, lsbPlace, surfacePlace, negPlace, posPlace}
+use Rattle.paper.specs.Kinds.{ltPlace, entriesPlace, beginLength}
 use Rattle.paper.specs.Kinds.{entryUsed, shortWidth, entryFlags, entryCycle, longWidth}
-use Rattle.paper.specs.Kinds.{slicePlace, sliceFlagsPlace, active0Place, active1Place, entryBytesPlace, sliceLength}
+use Rattle.paper.specs.Kinds.{slicePlace, sliceFlagsPlace, active0Place, active1Place, entryBytesPlace}
+use Rattle.paper.specs.Kinds.{sliceLength}
 
 -- "A record is u16 body length, u16 kind, body."
 abbrev pub lengthOf : List ℕ → ℕ
@@ -25,10 +27,17 @@ kindOf r = u16 r kindPlace
 
 -- "1 configure: k u8, capacity u8, buffering u8, reorder u8, latency u16"
 abbrev pub limitsOf : List ℕ → Limits
-limitsOf r = record { k = u8 r kPlace; capacity = u8 r capacityPlace; buffering = u8 r bufferingPlace; reorder = u8 r reorderPlace; latency = u16 r latencyPlace }
+limitsOf r =
+    record {
+      k = u8 r kPlace;
+      capacity = u8 r capacityPlace;
+      buffering = u8 r bufferingPlace;
+      reorder = u8 r reorderPlace;
+      latency = u16 r latencyPlace;
+    }
 
--- "2 begin: NAL type u8, temporal id u8, flags u8, lsb u16, surface u32, counts neg, pos, lt u8 each; then per neg, then per pos:
--- delta i32, used u8; per lt: lsb u16, flags u8, cycle u32"
+-- "2 begin: NAL type u8, temporal id u8, flags u8, lsb u16, surface u32, counts neg, pos, lt u8 each; then per neg,
+-- then per pos: delta i32, used u8; per lt: lsb u16, flags u8, cycle u32"
 pub record Fields : Type 0 where
   pub nal : ℕ
   pub tid : ℕ
@@ -43,7 +52,12 @@ abbrev pub shortAt : List ℕ → ℕ → ℕ → ShortEntry
 shortAt r at i = record { delta = i32 r (at + shortWidth * i); used = u8 r (at + shortWidth * i + entryUsed) }
 
 abbrev pub longAt : List ℕ → ℕ → ℕ → LongEntry
-longAt r at i = record { lsb = u16 r (at + longWidth * i); flags = u8 r (at + longWidth * i + entryFlags); cycle = u32 r (at + longWidth * i + entryCycle) }
+longAt r at i =
+    record {
+      lsb = u16 r (at + longWidth * i);
+      flags = u8 r (at + longWidth * i + entryFlags);
+      cycle = u32 r (at + longWidth * i + entryCycle);
+    }
 
 unfoldable pub fieldsOf : List ℕ → Fields
 fieldsOf r =
@@ -58,8 +72,8 @@ fieldsOf r =
       lt = table (longAt r (entriesPlace + shortWidth * (u8 r negPlace + u8 r posPlace))) (u8 r ltPlace);
     }
 
--- "3 lists: slice type u8 (0 B, 1 P, 2 I), flags u8 (bit 0 modify list 0, bit 1 modify list 1, bit 2 current picture is a
--- candidate), a0 u8, a1 u8; a0 entry bytes if bit 0; a1 if bit 1". What it says of one list:
+-- "3 lists: slice type u8 (0 B, 1 P, 2 I), flags u8 (bit 0 modify list 0, bit 1 modify list 1, bit 2 current picture is
+-- a candidate), a0 u8, a1 u8; a0 entry bytes if bit 0; a1 if bit 1". What it says of one list:
 pub record ListAsk : Type 0 where
   pub uses : Bool
   pub active : ℕ
@@ -107,10 +121,13 @@ sliceOf r =
 abbrev pub bodyOk : List ℕ → Bool
 bodyOk r =
     cond (eqb (kindOf r) configureKind) (eqb (lengthOf r) configureLength)
-    (cond (eqb (kindOf r) beginKind) (eqb (lengthOf r) (beginLength + shortWidth * (u8 r negPlace + u8 r posPlace) + longWidth * u8 r ltPlace))
+    (cond (eqb (kindOf r) beginKind)
+    (eqb (lengthOf r) (beginLength + shortWidth * (u8 r negPlace + u8 r posPlace) + longWidth * u8 r ltPlace))
     (cond (eqb (kindOf r) listsKind) (eqb (lengthOf r) (sliceLength + entries0 r + entries1 r))
     (leb finishKind (kindOf r) && leb (kindOf r) abandonKind && eqb (lengthOf r) 0)))
 
--- number 13: "slice not exactly head plus body, body over 512 bytes, unknown kind, or body length not what kind and counts call for"
+-- number 13: "slice not exactly head plus body, body over 512 bytes, unknown kind, or body length not what kind and
+-- counts call for"
 unfoldable pub wellFormed : List ℕ → Bool
-wellFormed r = leb bodyPlace (length r) && eqb (length r) (bodyPlace + lengthOf r) && leb (lengthOf r) bodyLimit && bodyOk r
+wellFormed r =
+    leb bodyPlace (length r) && eqb (length r) (bodyPlace + lengthOf r) && leb (lengthOf r) bodyLimit && bodyOk r

@@ -10,7 +10,8 @@ use Rattle.paper.specs.Numbers.{missing, capacityLimit}
 use Rattle.paper.specs.State.{Refs}
 use Rattle.paper.specs.Records.{ListAsk, Slice}
 
--- "candidates are Before, After, LtCurr for list 0 and After, Before, LtCurr for list 1, then the current picture if flagged"
+-- "candidates are Before, After, LtCurr for list 0 and After, Before, LtCurr for list 1, then the current picture if
+-- flagged"
 abbrev pub ownOf : Bool → Serial → List Serial
 ownOf own c = cond own (c ∷ []) []
 

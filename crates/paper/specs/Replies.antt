@@ -29,8 +29,8 @@ pub data Reply : Type 0 where
   Started : Begun → Tail → Reply
   Listed : List Serial → List Serial → Reply
 
--- "u8 count and (serial u32, surface u32, POC i32) of each picture handed out; u8 count and serials thrown away; u8 count and
--- surfaces released"
+-- "u8 count and (serial u32, surface u32, POC i32) of each picture handed out; u8 count and serials thrown away; u8
+-- count and surfaces released"
 abbrev pub shownBytes : Shown → List ℕ
 shownBytes p = bytes32 (p .serial .0) ++ bytes32 (p .surface .0) ++ signed32 (p .poc)
 
@@ -43,23 +43,29 @@ tailBytes t =
     ++ (length (t .thrown) ∷ words (serialNos (t .thrown)))
     ++ (length (t .released) ∷ words (surfaceNos (t .released)))
 
--- "POC i32, flags u8 (bit 0 NoRaslOutputFlag, 1 output flag, 2 valid for prevTid0Pic, 3 no output of prior pictures), serial u32,
--- five u8 counts (StCurrBefore, StCurrAfter, StFoll, LtCurr, LtFoll), their members in that order as u32 serials"
+-- "POC i32, flags u8 (bit 0 NoRaslOutputFlag, 1 output flag, 2 valid for prevTid0Pic, 3 no output of prior pictures),
+-- serial u32, five u8 counts (StCurrBefore, StCurrAfter, StFoll, LtCurr, LtFoll), their members in that order as u32
+-- serials"
 abbrev pub flagsByte : Begun → ℕ
 flagsByte b = flagAt 0 (b .noRasl) + flagAt 1 (b .output) + flagAt 2 (b .valid) + flagAt 3 (b .noPrior)
 
 unfoldable pub begunBytes : Begun → List ℕ
 begunBytes b =
     signed32 (b .poc) ++ (flagsByte b ∷ []) ++ bytes32 (b .serial .0)
-    ++ (length (b .sets .before) ∷ length (b .sets .after) ∷ length (b .sets .foll) ∷ length (b .sets .ltCurr) ∷ length (b .sets .ltFoll) ∷ [])
+    ++ (length (b .sets .before)
+    ∷ length (b .sets .after)
+    ∷ length (b .sets .foll)
+    ∷ length (b .sets .ltCurr)
+    ∷ length (b .sets .ltFoll)
+    ∷ [])
     ++ words (serialNos (inOrder (b .sets)))
 
 -- "A reply has the same head with kind 256 + record kind; its body starts with a u16 refusal number."
 abbrev pub framed : ℕ → ℕ → List ℕ → List ℕ
 framed kind number rest = bytes16 (2 + length rest) ++ bytes16 kind ++ bytes16 number ++ rest
 
--- "Accepted replies: kinds 1 and 4 to 8 hold the refusal number 0 and a tail. Begin holds 0, .. the tail. Lists holds 0, two u8
--- lengths, the u32 serials."
+-- "Accepted replies: kinds 1 and 4 to 8 hold the refusal number 0 and a tail. Begin holds 0, .. the tail. Lists holds
+-- 0, two u8 lengths, the u32 serials."
 unfoldable pub bytesOf : Reply → List ℕ
 bytesOf (Refused kind number) = framed kind number []
 bytesOf (Done kind t) = framed (replyTo kind) 0 (tailBytes t)

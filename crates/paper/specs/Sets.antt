@@ -26,7 +26,12 @@ abbrev pub longPoc : ℕ → ℤ → ℕ → ℕ → ℤ
 longPoc M p lsb cycle = pos lsb +ℤ p -ℤ pos (cycle * M) -ℤ pos (modZ p M)
 
 abbrev pub longWish : ℕ → ℤ → LongEntry → Wish
-longWish M p e = record { poc = cond (bit 1 (e .flags)) (longPoc M p (e .lsb) (e .cycle)) (pos (e .lsb)); used = bit 0 (e .flags); whole = bit 1 (e .flags) }
+longWish M p e =
+    record {
+      poc = cond (bit 1 (e .flags)) (longPoc M p (e .lsb) (e .cycle)) (pos (e .lsb));
+      used = bit 0 (e .flags);
+      whole = bit 1 (e .flags);
+    }
 
 -- what the entries ask for, in the record's order
 pub record Wishes : Type 0 where
@@ -35,7 +40,12 @@ pub record Wishes : Type 0 where
   pub lt : List Wish
 
 unfoldable pub wishesOf : ℕ → ℤ → Fields → Wishes
-wishesOf M p f = record { neg = map (shortWish p) (f .neg); pos = map (shortWish p) (f .pos); lt = map (longWish M p) (f .lt) }
+wishesOf M p f =
+    record {
+      neg = map (shortWish p) (f .neg);
+      pos = map (shortWish p) (f .pos);
+      lt = map (longWish M p) (f .lt);
+    }
 
 -- not number 6, for the sets: every POC that is asked for lies in i32
 abbrev pub wishIn32 : Wish → Bool
@@ -70,7 +80,15 @@ unfoldable pub shortSet : List Picture → List Wish → List Serial
 shortSet ps ws = map (λ (w : Wish). firstOf (shortMatch w) ps) ws
 
 abbrev pub marked : Mark → Picture → Picture
-marked m p = record { serial = p .serial; surface = p .surface; poc = p .poc; mark = m; waiting = p .waiting; count = p .count }
+marked m p =
+    record {
+      serial = p .serial;
+      surface = p .surface;
+      poc = p .poc;
+      mark = m;
+      waiting = p .waiting;
+      count = p .count;
+    }
 
 abbrev pub isIn : Serial → List Serial → Bool
 isIn n ns = anyB (sameSerial n) ns
@@ -102,7 +120,8 @@ refsOf x = record { before = x .before; after = x .after; ltCurr = x .ltCurr }
 
 -- "Those found become long-term."
 abbrev pub longMarked : ℕ → List Picture → Wishes → List Picture
-longMarked M ps w = markAll Mark.LongTerm (longSet M ps (keep usedBy (w .lt)) ++ longSet M ps (keep unusedBy (w .lt))) ps
+longMarked M ps w =
+    markAll Mark.LongTerm (longSet M ps (keep usedBy (w .lt)) ++ longSet M ps (keep unusedBy (w .lt))) ps
 
 -- "used neg to Before, used pos to After, unused neg then pos to Foll"; used lt to LtCurr, unused lt to LtFoll
 unfoldable pub setsOf : ℕ → List Picture → Wishes → Sets

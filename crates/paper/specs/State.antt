@@ -75,16 +75,31 @@ abbrev pub onNow : {A : Type 0} → Now → A → (Current → A) → A
 onNow Now.Idle x g = x
 onNow (Now.Is c) x g = g c
 
--- The normal form. Every definition takes any session value, also one that no record reaches: a k or a capacity over 16 is
--- taken as 16, and a count past 2,147,483,647 as that. A session reached from fresh is its own normal form.
+-- The normal form. Every definition takes any session value, also one that no record reaches: a k or a capacity over 16
+-- is taken as 16, and a count past 2,147,483,647 as that. A session reached from fresh is its own normal form.
 abbrev pub taken16 : Limits → Limits
-taken16 l = record { k = min (l .k) 16; capacity = min (l .capacity) capacityLimit; buffering = l .buffering; reorder = l .reorder; latency = l .latency }
+taken16 l =
+    record {
+      k = min (l .k) 16;
+      capacity = min (l .capacity) capacityLimit;
+      buffering = l .buffering;
+      reorder = l .reorder;
+      latency = l .latency;
+    }
 
 abbrev pub countLimit : ℕ
 countLimit = 2147483647
 
 abbrev pub counted : Picture → Picture
-counted p = record { serial = p .serial; surface = p .surface; poc = p .poc; mark = p .mark; waiting = p .waiting; count = min (p .count) countLimit }
+counted p =
+    record {
+      serial = p .serial;
+      surface = p .surface;
+      poc = p .poc;
+      mark = p .mark;
+      waiting = p .waiting;
+      count = min (p .count) countLimit;
+    }
 
 abbrev pub normal : Session → Session
 normal s =

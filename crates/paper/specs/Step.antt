@@ -9,7 +9,8 @@ use Rattle.paper.specs.declared.Limits.{Limits}
 use Rattle.paper.specs.declared.Current.{Current}
 use Rattle.paper.specs.Words.{_gives_, first, anyB}
 use Rattle.paper.specs.Numbers.{aSerial, missing, sameSurface, replyLimit}
-use Rattle.paper.specs.Kinds.{configureKind, beginKind, listsKind, finishKind, drainKind, discardKind, endKind, abandonKind, replyTo, malformedReply}
+use Rattle.paper.specs.Kinds.{configureKind, beginKind, listsKind, finishKind, drainKind, discardKind, endKind}
+use Rattle.paper.specs.Kinds.{abandonKind, replyTo, malformedReply}
 use Rattle.paper.specs.State.{Session, isCurrent, onNow, modulus}
 use Rattle.paper.specs.Records.{Fields, Slice, kindOf, limitsOf, fieldsOf, sliceOf, wellFormed}
 use Rattle.paper.specs.Ranges.{configureRanges, beginRanges, listsRanges}
@@ -17,7 +18,8 @@ use Rattle.paper.specs.Flags.{validPrev}
 use Rattle.paper.specs.Begin.{noRasl, outputFlag, noPrior, poc, within, sets, roomMade, begunSession}
 use Rattle.paper.specs.RefLists.{candidates0, candidates1, list0, list1, noCandidate, tooMany, badEntry}
 use Rattle.paper.specs.Output.{Tail, quiet}
-use Rattle.paper.specs.Calls.{full, finished, drainedNow, dropped, discarded, finishedSession, drainedSession, configuredSession, discardedSession, abandonedSession, endedSession}
+use Rattle.paper.specs.Calls.{full, finished, drainedNow, dropped, discarded, finishedSession, drainedSession}
+use Rattle.paper.specs.Calls.{configuredSession, discardedSession, abandonedSession, endedSession}
 use Rattle.paper.specs.Replies.{Begun, Reply, bytesOf}
 
 -- what is decided of a record: its number, the reply and the session after
@@ -45,7 +47,8 @@ configureRefusal s l =
     ∷ [])
 
 unfoldable pub configureOf : Session → Limits → Decided
-configureOf s l = unless s configureKind (configureRefusal s l) (accepted (configuredSession s l) configureKind (drainedNow s .tail))
+configureOf s l =
+    unless s configureKind (configureRefusal s l) (accepted (configuredSession s l) configureKind (drainedNow s .tail))
 
 -- "begin 1, 3, 5, 8, 7, 6"; number 7: "the surface is held by a stored picture at the time of the call"
 abbrev pub heldBy : Surface → Picture → Bool
@@ -63,11 +66,20 @@ beginRefusal s f =
 
 abbrev pub begunOf : Session → Fields → Begun
 begunOf s f =
-    record { poc = poc s f; noRasl = noRasl s f; output = outputFlag s f; valid = validPrev (f .nal) (f .tid); noPrior = noPrior s f; serial = aSerial (s .next); sets = sets s f }
+    record {
+      poc = poc s f;
+      noRasl = noRasl s f;
+      output = outputFlag s f;
+      valid = validPrev (f .nal) (f .tid);
+      noPrior = noPrior s f;
+      serial = aSerial (s .next);
+      sets = sets s f;
+    }
 
 unfoldable pub beginOf : Session → Fields → Decided
 beginOf s f =
-    unless s beginKind (beginRefusal s f) (record { number = 0; reply = Reply.Started (begunOf s f) (roomMade s f .tail); next = begunSession s f })
+    unless s beginKind (beginRefusal s f)
+    (record { number = 0; reply = Reply.Started (begunOf s f) (roomMade s f .tail); next = begunSession s f })
 
 -- "lists 4, 5, 10, 11 for list 0 then 1, 12 likewise"
 unfoldable pub listsRefusal : Session → Current → Slice → ℕ
@@ -82,21 +94,30 @@ listsRefusal s c f =
 
 abbrev pub listsAt : Session → Slice → Current → Decided
 listsAt s f c =
-    unless s listsKind (listsRefusal s c f) (record { number = 0; reply = Reply.Listed (list0 (s .refs) (c .serial) f) (list1 (s .refs) (c .serial) f); next = s })
+    unless s listsKind (listsRefusal s c f)
+    (record {
+      number = 0;
+      reply = Reply.Listed (list0 (s .refs) (c .serial) f) (list1 (s .refs) (c .serial) f);
+      next = s;
+    })
 
 unfoldable pub listsOf : Session → Slice → Decided
 listsOf s f = onNow (s .current) (refused s (replyTo listsKind) 4) (listsAt s f)
 
 -- "finish 4, 9"
 abbrev pub finishAt : Session → Current → Decided
-finishAt s c = unless s finishKind (first (full s gives 9 ∷ [])) (accepted (finishedSession s c) finishKind (finished (s .limits) (s .store) c .tail))
+finishAt s c =
+    unless s finishKind (first (full s gives 9 ∷ []))
+    (accepted (finishedSession s c) finishKind (finished (s .limits) (s .store) c .tail))
 
 unfoldable pub finishOf : Session → Decided
 finishOf s = onNow (s .current) (refused s (replyTo finishKind) 4) (finishAt s)
 
 -- "drain 9"
 unfoldable pub drainOf : Session → Decided
-drainOf s = unless s drainKind (first ((isCurrent (s .current) && full s) gives 9 ∷ [])) (accepted (drainedSession s) drainKind (drainedNow s .tail))
+drainOf s =
+    unless s drainKind (first ((isCurrent (s .current) && full s) gives 9 ∷ []))
+    (accepted (drainedSession s) drainKind (drainedNow s .tail))
 
 unfoldable pub discardOf : Session → Decided
 discardOf s = accepted (discardedSession s) discardKind (discarded (s .store) (s .current) .tail)
@@ -106,7 +127,9 @@ endOf s = accepted (endedSession s) endKind quiet
 
 -- "abandon 4"
 unfoldable pub abandonOf : Session → Decided
-abandonOf s = onNow (s .current) (refused s (replyTo abandonKind) 4) (λ (c : Current). accepted (abandonedSession s) abandonKind (dropped c))
+abandonOf s =
+    onNow (s .current) (refused s (replyTo abandonKind) 4)
+    (λ (c : Current). accepted (abandonedSession s) abandonKind (dropped c))
 
 -- what a well-formed record does, by its kind
 unfoldable pub byKind : Session → List ℕ → Decided

@@ -1,5 +1,6 @@
--- A pool whose session has accepted a record holds what the session holds, and on each surface at most one picture waits or one return is pending. The reply releases
--- what no line lies on any more, and hands out what wanted to be shown; and a begin was given a surface that nothing lay on and nothing was pending on.
+-- A pool whose session has accepted a record holds what the session holds, and on each surface at most one picture
+-- waits or one return is pending. The reply releases what no line lies on any more, and hands out what wanted to be
+-- shown; and a begin was given a surface that nothing lay on and nothing was pending on.
 use Prim.Native.Nat.{ℕ, _+_, _≤_, _<_}
 use mathlib.Core.Path.{_≡_, refl, sym, ap, _∙_, subst}
 use mathlib.Core.List.{List, [], _∷_}
@@ -53,8 +54,8 @@ is-free p x g f =
     let z = ltb-false 0 (lying x (linesIn p)) (sym (g .held x) ∙ h) in
     record { its = ltb-true x (p .surfaces) (left (ltb x (p .surfaces)) _ f); bare = omega (arith, z); back = eqb-true (p .pending x) 0 (right (not (p .held x)) _ k) }
 
--- held before and not released, or begun: something lies there. Of one surface: whether it is the pool's, and the one given; how many lines lay there, were begun there,
--- lie there, and were released there
+-- held before and not released, or begun: something lies there. Of one surface: whether it is the pool's, and the one
+-- given; how many lines lay there, were begun there, lie there, and were released there
 lies-now : (a e : Bool) (before begun now gone : ℕ) → before + begun ≡ now + gone → begun ≤ now → before ≤ 1 → begun ≡ cond (a && e) 1 0 → (a ≡ false → before ≡ 0)
     → ((ltb 0 before && eqb (cond a gone 0) 0) || (a && e)) ≡ ltb 0 now
 lies-now true true before begun now gone sum less most is own = rw (or-true (ltb 0 before && eqb gone 0), lt-ltb 0 now (omega (arith, less, is)))

@@ -1,5 +1,6 @@
--- What a call of any pool answers: a begin is given the lowest free surface, 18 stands for none, 19 for a return with none pending, and what is not answered 0 leaves the
--- pool. Each way through the definitions says so itself; the session's own numbers are below 15.
+-- What a call of any pool answers: a begin is given the lowest free surface, 18 stands for none, 19 for a return with
+-- none pending, and what is not answered 0 leaves the pool. Each way through the definitions says so itself; the
+-- session's own numbers are below 15.
 use Prim.Native.Nat.{ℕ, _≤_, _<_}
 use mathlib.Core.Path.{_≡_, refl, ap, _∙_, subst}
 use mathlib.Core.List.{List, []}

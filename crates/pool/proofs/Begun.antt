@@ -1,5 +1,6 @@
--- The surfaces that answers give to begins are those on which the reader of the replies hears a begin accepted: a call answers a surface below 64 beside number 0
--- exactly if it took a begin with that surface in its field and the session accepted it, and then the reply reads as that of an accepted begin.
+-- The surfaces that answers give to begins are those on which the reader of the replies hears a begin accepted: a call
+-- answers a surface below 64 beside number 0 exactly if it took a begin with that surface in its field and the session
+-- accepted it, and then the reply reads as that of an accepted begin.
 use Prim.Native.Nat.{ℕ, _≤_, _<_}
 use native.Mathlib.Omega.{arith}
 use mathlib.Core.Path.{_≡_, refl, sym, ap, ap₂, _∙_, subst}
@@ -37,7 +38,8 @@ use Rattle.pool.proofs.Parts.{heardOne, not-empty}
 
 -- ---- how the session's reply to a record reads
 
--- of one that says what a decision does: a line is begun exactly if a record of begin's kind was accepted, on the surface that is said
+-- of one that says what a decision does: a line is begun exactly if a record of begin's kind was accepted, on the
+-- surface that is said
 record Reads (st : Reading) (w r : List ℕ) (d : Decided) : Type 0 where
   is : surfaces (begunIn w (readReply st (bytesOf (d .reply)))) ≡ cond (eqb (d .number) 0 && eqb (kindOf r) beginKind) (u32 w surfacePlace ∷ []) []
 

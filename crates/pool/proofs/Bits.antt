@@ -1,13 +1,14 @@
--- The bits of a word: what `&`, `|`, `^` and a shift make of them, that two words with the same bits are one word, and that counting the zeros below the lowest set bit
--- finds the lowest number whose bit is set. The pool's marks are bits, and what is said of them is said bit by bit. Assumes nothing.
+-- The bits of a word: what `&`, `|`, `^` and a shift make of them, that two words with the same bits are one word, and
+-- that counting the zeros below the lowest set bit finds the lowest number whose bit is set. The pool's marks are bits,
+-- and what is said of them is said bit by bit. Assumes nothing.
 use Prim.Native.Nat.{ℕ, zero, suc, _+_, _-_, _*_, _/_, _%_, _^_, _≤_, _<_, min, max}
 use mathlib.Core.Path.{_≡_, refl, sym, ap, ap₂, _∙_}
 use mathlib.Core.Bool.{Bool, false, cond, not, _&&_, _||_}
 use native.Mathlib.Omega.{arith}
-use native.Mathlib.Nat.{mod-lt, zero-lt-suc, div-add-mod', lt-of-lt-of-le, div-eq-of-lt, div-one, one-mul}
+use native.Mathlib.Nat.{mod-lt, zero-lt-suc, div-add-mod', div-one, one-mul}
 use lib.Dec.{ltb, eqb}
 use lib.Arith.{digits-div, digits-mod, lt-one}
-use lib.Pow.{pow-mono, shr-shr, shr-lt, ones-split}
+use lib.Pow.{shr-shr, shr-lt, ones-split}
 use lib.Bits.{bitAnd, bitOr, bitXor, differ, and-shr, or-shr, xor-shr, and-step, or-step, xor-step, shifted-half, shifted-even}
 use lib.Count.{trailingZeros, under}
 use borrow.Author.Tests.{ltb-true, ltb-false, lt-ltb, le-ltb, eq-eqb, ne-eqb, eqb-true, eqb-false}
@@ -151,10 +152,6 @@ bit-ones zero (suc n) = bit-lowest (2 ^ suc n - 1) ∙ ap (λ (m : ℕ). eqb m 1
 bit-ones (suc i) (suc n) = bit-suc i (2 ^ suc n - 1) ∙ ap (bit i) (ap (λ (m : ℕ). m / 2) (ones-more n) ∙ digits-div (2 ^ n - 1) one-lt) ∙ bit-ones i n ∙ sym (ltb-suc i n)
 
 -- ---- a word of k bits
-
-pub bit-above : (k i n : ℕ) → n < 2 ^ k → k ≤ i → bit i n ≡ false
-unfolding bit
-bit-above k i n h le = ap (λ (x : ℕ). eqb (x % 2) 1) (div-eq-of-lt (lt-of-lt-of-le h (pow-mono le)))
 
 same-digit : (x y : ℕ) → x < 2 → y < 2 → eqb x 1 ≡ eqb y 1 → x ≡ y
 same-digit x y h k e =

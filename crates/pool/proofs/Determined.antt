@@ -1,5 +1,6 @@
--- Any two results that the contract of `step` permits are equal: a caller need not ask which code answered. Answer, buffer and pool always; the pool's three words where
--- each has 64 bits; and, from memory in its normal form, the session's words, as the session's own theorem says. Assumes nothing.
+-- Any two results that the contract of `step` permits are equal: a caller need not ask which code answered. Answer,
+-- buffer and pool always; the pool's three words where each has 64 bits; and, from memory in its normal form, the
+-- session's words, as the session's own theorem says. Assumes nothing.
 use Prim.Native.Nat.{ℕ, zero, suc, _^_, _<_}
 use mathlib.Core.Path.{_≡_, refl, sym, ap, _∙_}
 use mathlib.Core.List.{List}

@@ -1,5 +1,7 @@
--- A run of the code's calls is heard as the definitions say, and its memory is the pool that they leave: each contract gives the definitions' answer and bytes, and the next pool
--- with at most one return pending on a surface, which is that pool itself, as it is one that calls reached. So what is promised of the definitions holds of the code. It rests on `reached`.
+-- A run of the code's calls is heard as the definitions say, and its memory is the pool that they leave: each contract
+-- gives the definitions' answer and bytes, and the next pool with at most one return pending on a surface, which is
+-- that pool itself, as it is one that calls reached. So what is promised of the definitions holds of the code. It rests
+-- on `reached`.
 use Prim.Native.Nat.{ℕ, _≤_, min}
 use native.Mathlib.Omega.{arith}
 use mathlib.Core.Path.{_≡_, refl, sym, ap, ap₂, _∙_, subst}

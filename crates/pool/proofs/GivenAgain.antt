@@ -1,5 +1,6 @@
--- A surface is given again only after it was released, once, and after each handing out on it was returned, and each was of the picture begun on it: at either begin
--- the surface was free, so no line lay on it and nothing was pending, and what lies on it between the two was begun by the first. It rests on `reached`.
+-- A surface is given again only after it was released, once, and after each handing out on it was returned, and each
+-- was of the picture begun on it: at either begin the surface was free, so no line lay on it and nothing was pending,
+-- and what lies on it between the two was begun by the first. It rests on `reached`.
 use Prim.Native.Nat.{ℕ, _+_}
 use native.Mathlib.Omega.{arith}
 use mathlib.Core.Path.{_≡_, refl, sym, ap, ap₂, _∙_, subst}

@@ -1,4 +1,5 @@
--- Item 10 as it is asked for: all that is promised holds of a pool after any calls from a made one, and of the code's own bytes.
+-- Item 10 as it is asked for: all that is promised holds of a pool after any calls from a made one, and of the code's
+-- own bytes.
 use Prim.Native.Nat.{ℕ}
 use mathlib.Core.Path.{_≡_}
 use mathlib.Core.List.{List}

@@ -1,5 +1,6 @@
--- One call leads from a pool that is as it should be to another, and what is heard of it tells the session's ledger before into the one after: what is refused tells nothing
--- and leaves the pool, of what is accepted the reply tells what the session did, and a return takes one pending return away.
+-- One call leads from a pool that is as it should be to another, and what is heard of it tells the session's ledger
+-- before into the one after: what is refused tells nothing and leaves the pool, of what is accepted the reply tells
+-- what the session did, and a return takes one pending return away.
 use Prim.Native.Nat.{ℕ, _+_, _<_}
 use mathlib.Core.Path.{_≡_, refl, sym, ap, _∙_, subst}
 use mathlib.Core.List.{List, [], _∷_, append-nil}

@@ -1,5 +1,5 @@
--- The lowest free surface is free and nothing below it is, and it is 64 exactly if no surface of a pool of at most 64 is free: the search looks at 0, 1, 2, .. in turn and
--- stops at the first.
+-- The lowest free surface is free and nothing below it is, and it is 64 exactly if no surface of a pool of at most 64
+-- is free: the search looks at 0, 1, 2, .. in turn and stops at the first.
 use Prim.Native.Nat.{ℕ, zero, suc, _+_, _≤_, _<_}
 use mathlib.Core.Path.{_≡_, ap, _∙_}
 use mathlib.Core.Bool.{Bool, true, false, not, _&&_}

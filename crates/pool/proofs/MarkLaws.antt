@@ -1,5 +1,6 @@
--- The marks of the pool's surfaces: what the code makes of a word's bits is what the definitions say of each surface, and pools that agree surface by surface are one
--- pool. So a contract speaks of the definitions' pools, and the code of words. Assumes nothing.
+-- The marks of the pool's surfaces: what the code makes of a word's bits is what the definitions say of each surface,
+-- and pools that agree surface by surface are one pool. So a contract speaks of the definitions' pools, and the code of
+-- words. Assumes nothing.
 use Prim.Native.Nat.{ℕ, zero, suc, _+_, _-_, _/_, _^_, _≤_, _<_, min}
 use mathlib.Core.Path.{_≡_, refl, sym, ap, _∙_}
 use mathlib.Core.List.{List, [], _∷_}

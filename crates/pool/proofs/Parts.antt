@@ -1,5 +1,6 @@
--- What is heard of some calls and then of others is what is heard of the first and then of the others, from the pool that the first leave: `heardFrom` goes call by
--- call. So every part of what is heard is heard of a part of the calls; and what is told from it joins in the same way.
+-- What is heard of some calls and then of others is what is heard of the first and then of the others, from the pool
+-- that the first leave: `heardFrom` goes call by call. So every part of what is heard is heard of a part of the calls;
+-- and what is told from it joins in the same way.
 use Prim.Native.Nat.{ℕ}
 use mathlib.Core.Path.{_≡_, refl, sym, ap, ap₂, _∙_}
 use mathlib.Core.List.{List, [], _∷_, _++_, map, append-assoc}

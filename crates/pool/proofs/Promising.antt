@@ -1,5 +1,5 @@
--- All that is promised of a pool that some calls reached, but that a surface is never given while it is held: what is free in it is told from what was heard, since the
--- pool's own picture agrees with what was heard.
+-- All that is promised of a pool that some calls reached, but that a surface is never given while it is held: what is
+-- free in it is told from what was heard, since the pool's own picture agrees with what was heard.
 use Prim.Native.Nat.{ℕ, _+_}
 use mathlib.Core.Path.{_≡_, sym, ap, _∙_}
 use mathlib.Core.List.{List}

@@ -1,4 +1,5 @@
--- What holds of a pool of n surfaces that some calls reached, hs being the calls and their answers: it holds of a made pool, and no call breaks it (Reaching).
+-- What holds of a pool of n surfaces that some calls reached, hs being the calls and their answers: it holds of a made
+-- pool, and no call breaks it (Reaching).
 use Prim.Native.Nat.{ℕ, _≤_}
 use mathlib.Core.Path.{_≡_}
 use mathlib.Core.List.{List}

@@ -1,5 +1,5 @@
--- After any calls from a made pool, what was heard tells the ledger of the session, in order, and the pool's picture of it is true: a made pool is so, and each call leads on
--- (Leading).
+-- After any calls from a made pool, what was heard tells the ledger of the session, in order, and the pool's picture of
+-- it is true: a made pool is so, and each call leads on (Leading).
 use Prim.Native.Nat.{ℕ}
 use mathlib.Core.Path.{_≡_, refl, sym, ap, _∙_, subst}
 use mathlib.Core.List.{List, [], _∷_, _++_}

@@ -1,5 +1,6 @@
--- What a session's reply to a record says, read back: an accepted begin begins a picture on the surface of its record, no other record begins one, and a refusal says
--- its number and nothing else. It is so since the bytes of what is decided are read as what is decided.
+-- What a session's reply to a record says, read back: an accepted begin begins a picture on the surface of its record,
+-- no other record begins one, and a refusal says its number and nothing else. It is so since the bytes of what is
+-- decided are read as what is decided.
 use Prim.Native.Nat.{ℕ}
 use mathlib.Core.Path.{_≡_, refl, sym, ap, _∙_}
 use mathlib.Core.List.{List, [], _∷_}

@@ -1,5 +1,5 @@
--- Number 7 never comes through a pool: of all the tests only begin's has that number, it asks whether a stored picture lies on the begin's surface, and the surface that the
--- pool gives is held by none.
+-- Number 7 never comes through a pool: of all the tests only begin's has that number, it asks whether a stored picture
+-- lies on the begin's surface, and the surface that the pool gives is held by none.
 use Prim.Native.Nat.{ℕ, _≤_}
 use mathlib.Core.Path.{_≡_, refl, sym, ap, _∙_}
 use mathlib.Core.List.{List, [], _∷_, _++_, map}

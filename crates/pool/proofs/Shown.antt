@@ -1,5 +1,6 @@
--- What an exchange in order hands out was held in front of it: each picture handed out has the serial and the surface of a line of the ledger in front, for an event may
--- happen only to a line that is there, and changes neither of them. And what keeps demand 3 keeps it as far as any exchange: the ledger was in order there too.
+-- What an exchange in order hands out was held in front of it: each picture handed out has the serial and the surface
+-- of a line of the ledger in front, for an event may happen only to a line that is there, and changes neither of them.
+-- And what keeps demand 3 keeps it as far as any exchange: the ledger was in order there too.
 use Prim.Native.Nat.{ℕ, _+_}
 use native.Mathlib.Omega.{arith}
 use mathlib.Core.Path.{_≡_, refl, sym, ap, ap₂, _∙_}

@@ -1,5 +1,6 @@
--- One call of the pool is one call of its session with the chosen surface in a begin's place, and what the pool makes of the reply: the contract of `step` follows from
--- those of the functions that it calls, one law for each of its three ways out. Assumes nothing.
+-- One call of the pool is one call of its session with the chosen surface in a begin's place, and what the pool makes
+-- of the reply: the contract of `step` follows from those of the functions that it calls, one law for each of its three
+-- ways out. Assumes nothing.
 use Prim.Native.Nat.{ℕ, _≤_}
 use mathlib.Core.Path.{_≡_, refl, sym, ap, subst, _∙_}
 use mathlib.Core.List.{List, []}

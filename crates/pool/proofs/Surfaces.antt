@@ -1,5 +1,6 @@
--- What a reply in order does to the surfaces, counted: on each surface there lie as many lines as before, those begun more and those released less; and of those that
--- wanted to be shown there, one less for each handing out. It is so as a handing out names a line that wants to be shown, by its surface, and turns it off.
+-- What a reply in order does to the surfaces, counted: on each surface there lie as many lines as before, those begun
+-- more and those released less; and of those that wanted to be shown there, one less for each handing out. It is so as
+-- a handing out names a line that wants to be shown, by its surface, and turns it off.
 use Prim.Native.Nat.{ℕ, _+_, _≤_}
 use mathlib.Core.Path.{_≡_, refl, sym, ap, _∙_, subst}
 use mathlib.Core.List.{List, [], _∷_, _++_, map, append-nil}

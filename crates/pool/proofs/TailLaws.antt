@@ -1,5 +1,5 @@
--- A tail read place by place leaves the marks that the definitions tell: each surface that stands there sets or clears one bit, and all of them those that the tail
--- names. Assumes nothing.
+-- A tail read place by place leaves the marks that the definitions tell: each surface that stands there sets or clears
+-- one bit, and all of them those that the tail names. Assumes nothing.
 use Prim.Native.Nat.{ℕ, suc, _+_, _-_, _≤_, _<_}
 use mathlib.Core.Path.{_≡_, refl, sym, ap, _∙_}
 use mathlib.Core.List.{List, [], _∷_, map}

@@ -25,8 +25,9 @@ named n xs i = cond (ltb i n) (count i (surfaceNos xs)) 0
 abbrev pub shownOn : List Shown → List Surface
 shownOn ps = map (λ (p : Shown). p .surface) ps
 
--- The pool once its session has accepted a record and answered with these bytes. What the reply releases is held no more, and an accepted begin holds its surface
--- x (which is none of the pool's for any other record). "Each handing out adds one pending return".
+-- The pool once its session has accepted a record and answered with these bytes. What the reply releases is held no
+-- more, and an accepted begin holds its surface x (which is none of the pool's for any other record). "Each handing out
+-- adds one pending return".
 unfoldable pub told : Pool → Session → ℕ → Tail → List ℕ → Pool
 told p s x t bytes =
     record {
@@ -40,7 +41,8 @@ told p s x t bytes =
 abbrev pub accounted : Pool → Session → ℕ → List ℕ → Pool
 accounted p s x bytes = told p s x (tailIn (readReply (p .reading) bytes)) bytes
 
--- what a record's call answers, writes and leaves: "the call answers that number beside the reply, or 64 if no begin was accepted"
+-- what a record's call answers, writes and leaves: "the call answers that number beside the reply, or 64 if no begin
+-- was accepted"
 pub record Given : Type 0 where
   pub number : ℕ
   pub bytes : List ℕ
@@ -54,11 +56,12 @@ declined p number bytes = record { number = number; bytes = bytes; surface = noS
 -- what the session answered, with surface x for a begin
 abbrev pub passed : Pool → ℕ → Result → Given
 passed p x d =
-    cond (eqb (d .number) 0) (record { number = 0; bytes = d .bytes; surface = x; next = accounted p (d .next) x (d .bytes) })
+    cond (eqb (d .number) 0)
+    (record { number = 0; bytes = d .bytes; surface = x; next = accounted p (d .next) x (d .bytes) })
     (declined p (d .number) (d .bytes))
 
--- "Begin through the pool takes the lowest free surface"; "18, given exactly if no surface is free, after 14 and 13 and before begin's other checks". A begin that
--- is malformed is no begin here: the session answers it with 13
+-- "Begin through the pool takes the lowest free surface"; "18, given exactly if no surface is free, after 14 and 13 and
+-- before begin's other checks". A begin that is malformed is no begin here: the session answers it with 13
 unfoldable pub beginOn : Pool → ℕ → List ℕ → ℕ → Given
 beginOn p x r room =
     cond (ltb room replyLimit) (declined p 14 [])
@@ -69,7 +72,8 @@ beginOn p x r room =
 unfoldable pub poolStep : Pool → List ℕ → ℕ → Given
 poolStep p r room = cond (isBegin r) (beginOn p (lowestFree p) r room) (passed p noSurface (stepOf (p .session) r room))
 
--- "each return, a call and no record, takes one away and answers 0"; "19, a return for a surface with none pending or not in the pool"
+-- "each return, a call and no record, takes one away and answers 0"; "19, a return for a surface with none pending or
+-- not in the pool"
 pub record Returned : Type 0 where
   pub number : ℕ
   pub next : Pool
@@ -79,7 +83,13 @@ isPending p x = ltb x (p .surfaces) && ltb 0 (p .pending x)
 
 abbrev pub oneLess : Pool → ℕ → Pool
 oneLess p x =
-    record { session = p .session; surfaces = p .surfaces; held = p .held; pending = λ i. cond (eqb i x) (p .pending i - 1) (p .pending i); reading = p .reading }
+    record {
+      session = p .session;
+      surfaces = p .surfaces;
+      held = p .held;
+      pending = λ i. cond (eqb i x) (p .pending i - 1) (p .pending i);
+      reading = p .reading;
+    }
 
 unfoldable pub poolReturn : Pool → ℕ → Returned
 poolReturn p x = cond (isPending p x) (record { number = 0; next = oneLess p x }) (record { number = 19; next = p })

@@ -1,4 +1,5 @@
--- Document 02, Item 10: some calls of a pool one after the other, what each answered, and what somebody can tell from calls and answers alone.
+-- Document 02, Item 10: some calls of a pool one after the other, what each answered, and what somebody can tell from
+-- calls and answers alone.
 use Prim.Native.Nat.{ℕ}
 use mathlib.Core.List.{List, [], _∷_, _++_}
 use mathlib.Core.Bool.{Bool, true, cond, _&&_}
@@ -26,7 +27,11 @@ pub record Answer : Type 0 where
 
 unfoldable pub answerTo : Pool → Call → Answer
 answerTo p (Lends r room) =
-    record { number = poolStep p r room .number; bytes = poolStep p r room .bytes; surface = poolStep p r room .surface }
+    record {
+      number = poolStep p r room .number;
+      bytes = poolStep p r room .bytes;
+      surface = poolStep p r room .surface;
+    }
 answerTo p (Returns x) = record { number = poolReturn p x .number; bytes = []; surface = noSurface }
 
 unfoldable pub after : Pool → Call → Pool
@@ -51,10 +56,11 @@ abbrev pub BytesIn : Call → Bool
 BytesIn (Lends r room) = allB (λ (b : ℕ). ltb b 256) r
 BytesIn (Returns x) = true
 
--- "Demand 3 reads the chosen surface from that answer": the exchange of a call that got a reply, with the answered surface in the record's place, and what the
--- reader of the replies carries behind it
+-- "Demand 3 reads the chosen surface from that answer": the exchange of a call that got a reply, with the answered
+-- surface in the record's place, and what the reader of the replies carries behind it
 abbrev pub exchangeIn : Reading → Call → Answer → List Exchange
-exchangeIn st (Lends r room) a = cond (none (a .bytes)) [] (record { said = withSurface (a .surface) r; answered = a .bytes; reading = st } ∷ [])
+exchangeIn st (Lends r room) a =
+    cond (none (a .bytes)) [] (record { said = withSurface (a .surface) r; answered = a .bytes; reading = st } ∷ [])
 exchangeIn st (Returns x) a = []
 
 abbrev pub carriedOn : Reading → Call → Answer → Reading

@@ -38,11 +38,15 @@ WithAll w n xs w′ = (i : ℕ) → bit i w′ ≡ (bit i w || hit n xs i)
 abbrev pub WithoutAll : ℕ → ℕ → List Surface → ℕ → Type 0
 WithoutAll w n xs w′ = (i : ℕ) → bit i w′ ≡ (bit i w && not (hit n xs i))
 
--- the words once a tail was told and surface x was begun on: what is released is held no more, then x is held; what is handed out is pending
+-- the words once a tail was told and surface x was begun on: what is released is held no more, then x is held; what is
+-- handed out is pending
 pub record Told (ws : List ℕ) (x : ℕ) (t : Tail) (ws′ : List ℕ) : Type 0 where
   pub surfaces : word ws′ SURFACES ≡ word ws SURFACES
-  pub held : (i : ℕ) → bit i (word ws′ HELD) ≡ ((bit i (word ws HELD) && not (hit (surfacesOf ws) (t .released) i)) || isOf (surfacesOf ws) x i)
-  pub pending : (i : ℕ) → bit i (word ws′ PENDING) ≡ (bit i (word ws PENDING) || hit (surfacesOf ws) (shownOn (t .handed)) i)
+  pub held : (i : ℕ)
+      → bit i (word ws′ HELD)
+      ≡ ((bit i (word ws HELD) && not (hit (surfacesOf ws) (t .released) i)) || isOf (surfacesOf ws) x i)
+  pub pending : (i : ℕ)
+      → bit i (word ws′ PENDING) ≡ (bit i (word ws PENDING) || hit (surfacesOf ws) (shownOn (t .handed)) i)
 
 -- the words with other marks
 pub record Puts (ws : List ℕ) (h p : ℕ) (ws′ : List ℕ) : Type 0 where

@@ -16,7 +16,8 @@ pub record PoolMemory : Type 0 where
 abbrev pub poolMemory : List ℕ → Memory → PoolMemory
 poolMemory ws m = record { words = ws; memory = m }
 
--- the place of each word: how many surfaces there are; bit x of the next is whether surface x is held, and of the last whether a return is pending on it
+-- the place of each word: how many surfaces there are; bit x of the next is whether surface x is held, and of the last
+-- whether a return is pending on it
 abbrev pub SURFACES : ℕ
 SURFACES = 0
 
@@ -37,6 +38,14 @@ poolIn m =
       reading = opening;
     }
 
--- a pool as this memory can hold it: of more returns that are pending on a surface, one. A pool reached from a made one is so
+-- a pool as this memory can hold it: of more returns that are pending on a surface, one. A pool reached from a made one
+-- is so
 abbrev pub atMostOne : Pool → Pool
-atMostOne p = record { session = p .session; surfaces = p .surfaces; held = p .held; pending = λ x. min (p .pending x) 1; reading = p .reading }
+atMostOne p =
+    record {
+      session = p .session;
+      surfaces = p .surfaces;
+      held = p .held;
+      pending = λ x. min (p .pending x) 1;
+      reading = p .reading;
+    }

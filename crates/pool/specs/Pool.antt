@@ -17,8 +17,9 @@ canMake n = leb 1 n && leb n surfaceLimit
 abbrev pub noSurface : ℕ
 noSurface = 64
 
--- "a second layer above the session". The pool has a session and some surfaces. Of each surface it keeps whether it believes that the session holds it ("The pool's
--- picture of "held""), and how many returns are pending on it; and it keeps what a reader of the session's replies carries
+-- "a second layer above the session". The pool has a session and some surfaces. Of each surface it keeps whether it
+-- believes that the session holds it ("The pool's picture of "held""), and how many returns are pending on it; and it
+-- keeps what a reader of the session's replies carries
 pub record Pool : Type 0 where
   pub session : Session
   pub surfaces : ℕ
@@ -30,11 +31,13 @@ pub record Pool : Type 0 where
 abbrev pub made : ℕ → Pool
 made n = record { session = fresh; surfaces = n; held = λ x. false; pending = λ x. 0; reading = opening }
 
--- "A surface is free if the session does not hold it and every picture handed out on it has been given back by the display."
+-- "A surface is free if the session does not hold it and every picture handed out on it has been given back by the
+-- display."
 abbrev pub isFree : Pool → ℕ → Bool
 isFree p x = ltb x (p .surfaces) && (not (p .held x) && eqb (p .pending x) 0)
 
--- "the lowest free surface": of n numbers from x on the first of which f holds, or the number behind them. Of 64 numbers from 0 on that is 64, `noSurface`
+-- "the lowest free surface": of n numbers from x on the first of which f holds, or the number behind them. Of 64
+-- numbers from 0 on that is 64, `noSurface`
 unfoldable pub lowestFrom : (ℕ → Bool) → ℕ → ℕ → ℕ
 lowestFrom f zero x = x
 lowestFrom f (suc n) x = cond (f x) x (lowestFrom f n (x + 1))

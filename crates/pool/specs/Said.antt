@@ -23,16 +23,24 @@ pub record Makes (m : PoolMemory) (n k : ℕ) (m′ : PoolMemory) : Type 0 where
   pub surfaces : canMake n ≡ true → word (m′ .words) SURFACES ≡ n
   pub left : (k ≡ 0 → ⊥) → m′ ≡ m
 
--- `step`: the answer, the whole buffer and the next pool are those of `poolStep`; a refused record leaves every word as it was, and the count of the surfaces stays; the
--- session's memory stays in its normal form, and the run of the sets as it was behind the next session's members
-pub record Permitted (m : PoolMemory) (r before : List ℕ) (a : Code.Given) (m′ : PoolMemory) (after : List ℕ) : Type 0 where
-  pub answer : a ≡ record { number = poolStep (poolIn m) r (length before) .number; len = length (poolStep (poolIn m) r (length before) .bytes); surface = poolStep (poolIn m) r (length before) .surface }
+-- `step`: the answer, the whole buffer and the next pool are those of `poolStep`; a refused record leaves every word as
+-- it was, and the count of the surfaces stays; the session's memory stays in its normal form, and the run of the sets
+-- as it was behind the next session's members
+pub record Permitted (m : PoolMemory) (r before : List ℕ) (a : Code.Given) (m′ : PoolMemory)
+    (after : List ℕ) : Type 0 where
+  pub answer : a
+      ≡ record {
+        number = poolStep (poolIn m) r (length before) .number;
+        len = length (poolStep (poolIn m) r (length before) .bytes);
+        surface = poolStep (poolIn m) r (length before) .surface;
+      }
   pub bytes : after ≡ over (poolStep (poolIn m) r (length before) .bytes) before
   pub next : poolIn m′ ≡ atMostOne (poolStep (poolIn m) r (length before) .next)
   pub left : (a .number ≡ 0 → ⊥) → m′ ≡ m
   pub surfaces : word (m′ .words) SURFACES ≡ word (m .words) SURFACES
   pub normal : NormalMemory (m .memory) → NormalMemory (m′ .memory)
-  pub sets : (i : ℕ) → length (allRefs (poolStep (poolIn m) r (length before) .next .session .refs)) ≤ i → word (m′ .memory .sets) i ≡ word (m .memory .sets) i
+  pub sets : (i : ℕ) → length (allRefs (poolStep (poolIn m) r (length before) .next .session .refs)) ≤ i
+      → word (m′ .memory .sets) i ≡ word (m .memory .sets) i
 
 -- `give_back`, which is lent the pool's words alone: whatever session there is beside them
 pub record GivesBack (ws : List ℕ) (x k : ℕ) (ws′ : List ℕ) : Type 0 where

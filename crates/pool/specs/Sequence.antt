@@ -27,14 +27,23 @@ abbrev pub Run : PoolMemory → List One → PoolMemory → Type 0
 Run m [] m′ = m ≡ m′
 Run m (x ∷ xs) m′ = Did m (x .called) (x .left) × Run (x .left) xs m′
 
--- the definitions' call, and what somebody hears of it: the number, as many bytes of the buffer as the call says, and the surface
+-- the definitions' call, and what somebody hears of it: the number, as many bytes of the buffer as the call says, and
+-- the surface
 abbrev pub callOf : Called → Call
 callOf (Stepped r before a after) = Lends r (length before)
 callOf (Gave x number) = Returns x
 
 abbrev pub heardOf : Called → Heard
-heardOf (Stepped r before a after) = record { call = Lends r (length before); answer = record { number = a .number; bytes = take (a .len) after; surface = a .surface } }
-heardOf (Gave x number) = record { call = Returns x; answer = record { number = number; bytes = []; surface = noSurface } }
+heardOf (Stepped r before a after) =
+    record {
+      call = Lends r (length before);
+      answer = record { number = a .number; bytes = take (a .len) after; surface = a .surface };
+    }
+heardOf (Gave x number) =
+    record {
+      call = Returns x;
+      answer = record { number = number; bytes = []; surface = noSurface };
+    }
 
 abbrev pub callsOf : List One → List Call
 callsOf [] = []
@@ -44,7 +53,8 @@ abbrev pub heardIn : List One → List Heard
 heardIn [] = []
 heardIn (x ∷ xs) = heardOf (x .called) ∷ heardIn xs
 
--- THE CODE'S OWN BYTES: what is heard of its calls is what the definitions say of a pool of n surfaces, and the memory is the pool that they leave
+-- THE CODE'S OWN BYTES: what is heard of its calls is what the definitions say of a pool of n surfaces, and the memory
+-- is the pool that they leave
 pub record Follows (n : ℕ) (xs : List One) (m : PoolMemory) : Type 0 where
   pub heard : heardIn xs ≡ heardFrom (made n) (callsOf xs)
   pub pool : poolIn m ≡ afterAll (made n) (callsOf xs)

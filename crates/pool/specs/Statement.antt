@@ -1,4 +1,5 @@
--- Document 02, Item 10: what is promised of a pool, after any calls from a made one, told from records, replies and answers.
+-- Document 02, Item 10: what is promised of a pool, after any calls from a made one, told from records, replies and
+-- answers.
 use Prim.Native.Nat.{ℕ, _+_, _≤_, _<_}
 use mathlib.Core.Path.{_≡_}
 use mathlib.Core.List.{List, [], _∷_, _++_}
@@ -18,33 +19,38 @@ use Rattle.paper.specs.Statement.{Kept, ledgerOf, Begins, onSurface}
 use Rattle.session.specs.Target.{isBegin}
 use Rattle.pool.specs.Pool.{Pool, noSurface, canMake, made, isFree}
 use Rattle.pool.specs.Calls.{poolStep, poolReturn}
-use Rattle.pool.specs.History.{Call, Heard, BytesIn, answerTo, after, heardFrom, afterAll, carriedAll, exchangesIn, shownAll, returnsIn, surfacesIn}
+use Rattle.pool.specs.History.{Call, Heard, BytesIn, answerTo, after, heardFrom, afterAll, carriedAll}
+use Rattle.pool.specs.History.{exchangesIn, shownAll, returnsIn, surfacesIn}
 
 -- the surface lies under a line of this ledger: a picture that is stored or current is on it
 abbrev pub liesOn : ℕ → List Line → Bool
 liesOn x H = anyB (lies x) H
 
--- "The pool's picture of "held" agrees with the session after every record, refused ones and drains too": held in the pool are the surfaces of the session's stored and
--- current pictures, and these are surfaces of the pool
+-- "The pool's picture of "held" agrees with the session after every record, refused ones and drains too": held in the
+-- pool are the surfaces of the session's stored and current pictures, and these are surfaces of the pool
 pub record Agrees (p : Pool) : Type 0 where
   pub held : (x : ℕ) → p .held x ≡ liesOn x (linesOf (ledgerOf (p .session)))
   pub own : allB (λ (e : Line). ltb (e .surface .0) (p .surfaces)) (linesOf (ledgerOf (p .session))) ≡ true
 
--- "Each handing out adds one pending return; each return .. takes one away": what is pending and what was returned is what was handed out; and at most one return is
--- pending on a surface
+-- "Each handing out adds one pending return; each return .. takes one away": what is pending and what was returned is
+-- what was handed out; and at most one return is pending on a surface
 pub record Pends (p : Pool) (hs : List Heard) : Type 0 where
   pub sum : (x : ℕ) → p .pending x + count x (returnsIn hs) ≡ count x (shownAll (exchangesIn opening hs))
   pub one : (x : ℕ) → p .pending x ≤ 1
 
--- "A surface is free if the session does not hold it and every picture handed out on it has been given back by the display", told from records, replies and answers
+-- "A surface is free if the session does not hold it and every picture handed out on it has been given back by the
+-- display", told from records, replies and answers
 pub record FreeAs (n : ℕ) (p : Pool) (hs : List Heard) : Type 0 where
   pub free : (x : ℕ) → isFree p x
-      ≡ (ltb x n && (not (liesOn x (linesOf (told blank (exchangesIn opening hs)))) && eqb (count x (shownAll (exchangesIn opening hs))) (count x (returnsIn hs))))
+      ≡ (ltb x n && (not (liesOn x (linesOf (told blank (exchangesIn opening hs))))
+      && eqb (count x (shownAll (exchangesIn opening hs))) (count x (returnsIn hs))))
 
--- "Begin through the pool takes the lowest free surface, and the call answers that number beside the reply, or 64 if no begin was accepted."
+-- "Begin through the pool takes the lowest free surface, and the call answers that number beside the reply, or 64 if no
+-- begin was accepted."
 pub record Lowest (p : Pool) (r : List ℕ) (room : ℕ) : Type 0 where
   pub given : isBegin r ≡ true → poolStep p r room .number ≡ 0 → isFree p (poolStep p r room .surface) ≡ true
-  pub lower : isBegin r ≡ true → poolStep p r room .number ≡ 0 → (x : ℕ) → x < poolStep p r room .surface → isFree p x ≡ false
+  pub lower : isBegin r ≡ true → poolStep p r room .number ≡ 0 → (x : ℕ) → x < poolStep p r room .surface
+      → isFree p x ≡ false
   pub other : isBegin r ≡ false → poolStep p r room .surface ≡ noSurface
   pub refused : (poolStep p r room .number ≡ 0 → ⊥) → poolStep p r room .surface ≡ noSurface
 
@@ -53,7 +59,8 @@ pub record Eighteen (p : Pool) (r : List ℕ) (room : ℕ) : Type 0 where
   pub given : replyLimit ≤ room → isBegin r ≡ true → ((x : ℕ) → isFree p x ≡ false) → poolStep p r room .number ≡ 18
   pub only : poolStep p r room .number ≡ 18 → (replyLimit ≤ room) × (isBegin r ≡ true) × ((x : ℕ) → isFree p x ≡ false)
 
--- "None of them changes the pool or the session"; "A begin refused by the session leaves the pool as before"; "number 7 never comes through it"
+-- "None of them changes the pool or the session"; "A begin refused by the session leaves the pool as before"; "number 7
+-- never comes through it"
 pub record Refusals (p : Pool) (c : Call) : Type 0 where
   pub left : (answerTo p c .number ≡ 0 → ⊥) → after p c ≡ p
   pub seven : answerTo p c .number ≡ 7 → ⊥
@@ -74,14 +81,16 @@ names x n y = not (eqb x (y .surface .0)) || sameSerial n (y .serial)
 
 -- in some exchanges every handing out on surface x is of the picture n
 abbrev pub AllNamed : ℕ → Serial → List Exchange → Type 0
-AllNamed x n xs = (ys zs : List Exchange) (e : Exchange) → xs ≡ ys ++ (e ∷ zs) → allB (names x n) (tailIn (replyIn e) .handed) ≡ true
+AllNamed x n xs =
+    (ys zs : List Exchange) (e : Exchange) → xs ≡ ys ++ (e ∷ zs) → allB (names x n) (tailIn (replyIn e) .handed) ≡ true
 
 -- the exchanges of the calls ms, which came behind bs and h
 abbrev pub between : List Heard → Heard → List Heard → List Exchange
 between bs h ms = exchangesIn (carriedAll opening (bs ++ (h ∷ []))) ms
 
--- WHAT THE TENANT WANTS TO HEAR. From a begin's answer, h, until its surface x is given again, the surface was released by the session, once; and every handing out on it
--- was of that begin's picture, and was returned. The begin is `exchange`, that of the call h, and its reply says `begun` of its picture
+-- WHAT THE TENANT WANTS TO HEAR. From a begin's answer, h, until its surface x is given again, the surface was released
+-- by the session, once; and every handing out on it was of that begin's picture, and was returned. The begin is
+-- `exchange`, that of the call h, and its reply says `begun` of its picture
 pub record GivenAgain (bs ms : List Heard) (h : Heard) (x : ℕ) : Type 0 where
   pub exchange : Exchange
   pub begun : Begun
@@ -94,11 +103,14 @@ pub record GivenAgain (bs ms : List Heard) (h : Heard) (x : ℕ) : Type 0 where
   pub returned : count x (returnsIn ms) ≡ count x (shownAll (between bs h ms))
 
 abbrev pub NeverWhileHeld : List Heard → Type 0
-NeverWhileHeld hs = (bs ms ls : List Heard) (h k : Heard) (x : ℕ) → hs ≡ bs ++ (h ∷ ms ++ (k ∷ ls)) → GivenOn x h → GivenOn x k → count x (surfacesIn ms) ≡ 0 → GivenAgain bs ms h x
+NeverWhileHeld hs =
+    (bs ms ls : List Heard) (h k : Heard) (x : ℕ) → hs ≡ bs ++ (h ∷ ms ++ (k ∷ ls)) → GivenOn x h → GivenOn x k
+    → count x (surfacesIn ms) ≡ 0 → GivenAgain bs ms h x
 
 -- ALL THAT IS PROMISED of a pool of n surfaces after some calls
 pub record Promises (n : ℕ) (p : Pool) (hs : List Heard) : Type 0 where
-  -- demand 3 with the answered surface in the record's place; the lines of the ledger are the pictures that the session holds
+  -- demand 3 with the answered surface in the record's place; the lines of the ledger are the pictures that the session
+  -- holds
   pub kept : Kept (exchangesIn opening hs)
   pub true-to : told blank (exchangesIn opening hs) ≡ ledgerOf (p .session)
   pub surfaces : p .surfaces ≡ n
@@ -112,4 +124,6 @@ pub record Promises (n : ℕ) (p : Pool) (hs : List Heard) : Type 0 where
   pub never-while-held : NeverWhileHeld hs
 
 abbrev pub Item10 : Type 0
-Item10 = (n : ℕ) → canMake n ≡ true → (cs : List Call) → allB BytesIn cs ≡ true → Promises n (afterAll (made n) cs) (heardFrom (made n) cs)
+Item10 =
+    (n : ℕ) → canMake n ≡ true → (cs : List Call) → allB BytesIn cs ≡ true
+    → Promises n (afterAll (made n) cs) (heardFrom (made n) cs)

@@ -1,5 +1,5 @@
--- One answer put behind those that are there: the reply lies behind the place of the head, and the head is written in front of it. The lent part of the buffer has
--- just 512 bytes, so the pool answers as with the room of a call.
+-- One answer put behind those that are there: the reply lies behind the place of the head, and the head is written in
+-- front of it. The lent part of the buffer has just 512 bytes, so the pool answers as with the room of a call.
 use Prim.Native.Nat.{ℕ, _+_, _-_, _≤_, _<_}
 use mathlib.Core.Path.{_≡_, refl, sym, ap, ap₂, _∙_}
 use mathlib.Core.List.{List, _++_}

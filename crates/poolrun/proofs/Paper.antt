@@ -1,5 +1,6 @@
--- Item 10 of the program's own bytes: on a pool that calls reached from a made one at most one return is pending on each surface, so the memory holds the whole of it,
--- and the program's machine answers and goes on just as the definitions' machine does.
+-- Item 10 of the program's own bytes: on a pool that calls reached from a made one at most one return is pending on
+-- each surface, so the memory holds the whole of it, and the program's machine answers and goes on just as the
+-- definitions' machine does.
 use Prim.Native.Nat.{ℕ, _≤_}
 use mathlib.Core.Path.{_≡_, refl, sym, ap, subst, _∙_}
 use mathlib.Core.List.{List, [], _∷_, _++_, map}
@@ -75,7 +76,8 @@ module _ (n : ℕ) (can : canMake n ≡ true) where
       let said = answerBytes (answerKind c) (answerTo p (callIn c)) in
       (ap (λ (l : List (List ℕ)). said ∷ l) (ap (λ (v : Pool). outs pools v cs) few ∙ rest .0), ap (λ (v : Pool). stateAfter pools v cs) few ∙ rest .1)
 
-  -- ITEM 10 OF WHAT WAS READ AND WHAT WAS MADE. What is read are bytes: `brought-bytes` of filter has it of the lent buffers
+  -- ITEM 10 OF WHAT WAS READ AND WHAT WAS MADE. What is read are bytes: `brought-bytes` of filter has it of the lent
+  -- buffers
   pub pool-run : (s : Stand Pool) (t : Serves pools (made n) s) → allB (λ (b : ℕ). ltb b 256) (t .R) ≡ true → Pooled n (t .R) (t .W) s
   unfolding stateAfter allB
   pool-run s t bytes =

@@ -1,4 +1,5 @@
--- A pool answers a surface of at most 64: the lowest free one is one of 64 numbers or the number behind them, and else the answer is 64.
+-- A pool answers a surface of at most 64: the lowest free one is one of 64 numbers or the number behind them, and else
+-- the answer is 64.
 use Prim.Native.Nat.{ℕ, _≤_}
 use mathlib.Core.Path.{_≡_, sym, subst, _∙_}
 use mathlib.Core.List.{List, []}

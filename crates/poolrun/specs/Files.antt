@@ -9,7 +9,8 @@ use Rattle.paper.specs.Kinds.{bodyPlace}
 use Rattle.paper.specs.Records.{kindOf}
 use Rattle.pool.specs.History.{Call, Lends, Returns, Answer}
 
--- A call is "u16 body length, u16 kind, body". Kind 1 is the return of a surface, which is its body; every other kind lends its body as a record
+-- A call is "u16 body length, u16 kind, body". Kind 1 is the return of a surface, which is its body; every other kind
+-- lends its body as a record
 abbrev pub returnKind : ℕ
 returnKind = 1
 
@@ -19,15 +20,13 @@ isReturn c = eqb (kindOf c) returnKind
 unfoldable pub callIn : List ℕ → Call
 callIn c = cond (isReturn c) (Returns (u32 c bodyPlace)) (Lends (drop bodyPlace c) replyLimit)
 
--- An answer has the same head with kind 1 for a return and else 0; its body is u16 number, u16 surface, the reply's bytes
+-- An answer has the same head with kind 1 for a return and else 0; its body is u16 number, u16 surface, the reply's
+-- bytes
 abbrev pub answerKind : List ℕ → ℕ
 answerKind c = cond (isReturn c) returnKind 0
 
 abbrev pub headBytes : ℕ → ℕ → ℕ → ℕ → List ℕ
 headBytes kind len number surface = bytes16 (4 + len) ++ bytes16 kind ++ bytes16 number ++ bytes16 surface
-
-abbrev pub answerHead : ℕ
-answerHead = 8
 
 unfoldable pub answerBytes : ℕ → Answer → List ℕ
 answerBytes kind a = headBytes kind (length (a .bytes)) (a .number) (a .surface) ++ a .bytes
@@ -37,4 +36,5 @@ abbrev pub digitOf : ℕ → ℕ
 digitOf b = cond (leb 48 b && leb b 57) (b - 48) 100
 
 abbrev pub countIn : List ℕ → ℕ
-countIn w = cond (eqb (length w) 1) (digitOf (u8 w 0)) (cond (eqb (length w) 2) (10 * digitOf (u8 w 0) + digitOf (u8 w 1)) 0)
+countIn w =
+    cond (eqb (length w) 1) (digitOf (u8 w 0)) (cond (eqb (length w) 2) (10 * digitOf (u8 w 0) + digitOf (u8 w 1)) 0)

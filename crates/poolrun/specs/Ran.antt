@@ -13,7 +13,8 @@ use Rattle.filter.specs.Turns.{Stand, waiting}
 use Rattle.poolrun.specs.Files.{callIn}
 use Rattle.poolrun.specs.Machine.{exactly}
 
--- THE PROGRAM'S OWN BYTES, of a pool of n surfaces: R is what its reads brought, W what it handed to `write_all`, and s where it stands then
+-- THE PROGRAM'S OWN BYTES, of a pool of n surfaces: R is what its reads brought, W what it handed to `write_all`, and s
+-- where it stands then
 pub record Pooled (n : ℕ) (R W : List ℕ) (s : Stand Pool) : Type 0 where
   -- R is whole calls and what waits, and W the answers of the definitions to these calls, in their order
   pub said : List (List ℕ)
@@ -24,4 +25,5 @@ pub record Pooled (n : ℕ) (R W : List ℕ) (s : Stand Pool) : Type 0 where
   pub pool : s .state ≡ afterAll (made n) (map callIn said)
   pub promises : Promises n (s .state) (heardFrom (made n) (map callIn said))
   -- where the run ends because no more is read, W is the answers to the whole calls of R
-  pub all : s .after .more ≡ false → s .after .unwritten ≡ false → (W ≡ joined (outs exactly (made n) (cut R))) × (waiting s ≡ restOf R)
+  pub all : s .after .more ≡ false → s .after .unwritten ≡ false
+      → (W ≡ joined (outs exactly (made n) (cut R))) × (waiting s ≡ restOf R)

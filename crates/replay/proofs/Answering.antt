@@ -1,4 +1,5 @@
--- One reply put behind those that are there: any room from 512 bytes on gives the same reply, and it ends within the room.
+-- One reply put behind those that are there: any room from 512 bytes on gives the same reply, and it ends within the
+-- room.
 use Prim.Native.Nat.{ℕ, _+_, _-_, _≤_}
 use mathlib.Core.Path.{_≡_, ap, _∙_}
 use mathlib.Core.List.{List, _++_}

@@ -1,5 +1,6 @@
--- Demand 3 of the program's own bytes: from memory that `fresh` made, whatever the reads of its turns brought, the blocks that the turns made are the paper's replies to
--- the whole records in it; as cut by their heads these exchanges keep demand 3, and a ledger over them finds nothing broken.
+-- Demand 3 of the program's own bytes: from memory that `fresh` made, whatever the reads of its turns brought, the
+-- blocks that the turns made are the paper's replies to the whole records in it; as cut by their heads these exchanges
+-- keep demand 3, and a ledger over them finds nothing broken.
 use Prim.Native.Nat.{ℕ, suc, _+_}
 use mathlib.Core.Path.{_≡_, refl, sym, ap, ap₂, subst, _∙_}
 use mathlib.Core.List.{List, [], _∷_, _++_, map, append-nil}

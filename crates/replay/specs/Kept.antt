@@ -11,7 +11,8 @@ use Rattle.paper.specs.Watch.{pairs}
 use Rattle.format.specs.Cut.{sizeOf, cut, restOf}
 use Rattle.filter.specs.Turns.{Stand, waiting}
 
--- DEMAND 3 of the program's own bytes: R is what its reads brought, W what it handed to `write_all`, and s where it stands then
+-- DEMAND 3 of the program's own bytes: R is what its reads brought, W what it handed to `write_all`, and s where it
+-- stands then
 pub record KeptRun (R W : List ℕ) (s : Stand Session) : Type 0 where
   -- the exchanges of the whole records of R and the replies, as cut by their heads
   pub kept : Kept (pairs opening (cut R) (cut W))

@@ -253,7 +253,8 @@ tells h us vs ps p t x {l} {b} {y} {p′} {c} {before} {a} {after} el eb ey k w 
       says = subst (λ (z : List ℕ). Says (framed (replyTo beginKind) 0 z) before a after) (λ i. begunPart (ey i) x us vs ++ tailBytes (e i)) w;
     }
 
--- ---- a begin that nothing refuses, from what its parts did: the marks and the sets, then the room and the reply, then the words beside the store
+-- ---- a begin that nothing refuses, from what its parts did: the marks and the sets, then the room and the reply, then
+-- the words beside the store
 
 module _ (m : Memory) (r : List ℕ) {l : Limits} (h : BeginFields) (t : Start) (ps : List ℤ) (hs : List ℕ) (q : Wished (sessionIn m) r l h t ps hs)
     (y : Derived) (d : Derives (modulus l) (unmarkedIf (t .flags .over) (stored (m .store))) (wishesWithin ps hs (h .neg) (h .pos) (h .lt)) y)

@@ -1,5 +1,7 @@
--- Read this first. What is proved of the code: any two results that the contract of `step` permits are equal in the answer, in the buffer and in the session that
--- the memory is, and, from memory in normal form, in every word; a run of calls views as the paper's run; so demand 3, what a refusal leaves and writes, and the invariants of all sessions hold of the code.
+-- Read this first. What is proved of the code: any two results that the contract of `step` permits are equal in the
+-- answer, in the buffer and in the session that the memory is, and, from memory in normal form, in every word; a run of
+-- calls views as the paper's run; so demand 3, what a refusal leaves and writes, and the invariants of all sessions
+-- hold of the code.
 use Prim.Native.Nat.{ℕ, _≤_, _<_}
 use mathlib.Core.Path.{_≡_, refl, sym, ap, ap₂, _∙_, subst}
 use mathlib.Core.List.{List, [], _∷_, _++_}
@@ -38,7 +40,8 @@ use Rattle.session.proofs.Memories.{sizeOf, members-few, fronts-same, m
 pub determined : {m : Memory} {r before : List ℕ} {a b : Answer} {m1 m2 : Memory} {x y : List ℕ} → Permitted m r before a m1 x → Permitted m r before b m2 y → (a ≡ b) × (x ≡ y) × (sessionIn m1 ≡ sessionIn m2)
 determined p q = (p .answer ∙ sym (q .answer), p .bytes ∙ sym (q .bytes), p .next ∙ sym (q .next))
 
--- two memories in their normal form that are the session s, in which the run of the sets is xs behind its members, are equal in every word
+-- two memories in their normal form that are the session s, in which the run of the sets is xs behind its members, are
+-- equal in every word
 pub same-words : {m1 m2 : Memory} (s : P.Session) (xs : List ℕ) → sessionIn m1 ≡ s → sessionIn m2 ≡ s → NormalMemory m1 → NormalMemory m2
     → ((i : ℕ) → length (allRefs (s .refs)) ≤ i → word (m1 .sets) i ≡ word xs i) → ((i : ℕ) → length (allRefs (s .refs)) ≤ i → word (m2 .sets) i ≡ word xs i)
     → (m1 .front ≡ m2 .front) × ((i : ℕ) → word (m1 .sets) i ≡ word (m2 .sets) i) × ((j : ℕ) → j < 97 → word (m1 .store) j ≡ word (m2 .store) j)
@@ -150,7 +153,8 @@ module _ (m : Memory) (start : sessionIn m ≡ fresh) (xs : List Called) (m′ :
   pub code-heard : heardIn opening xs ≡ exchanges opening fresh rs
   code-heard = heard-is opening m xs m′ run ∙ ap (λ (v : P.Session). exchanges opening v rs) start
 
-  -- DEMAND 3 OF THE CODE'S OWN BYTES: what is heard keeps it, and the ledger told from it is that of the session that the memory then is
+  -- DEMAND 3 OF THE CODE'S OWN BYTES: what is heard keeps it, and the ledger told from it is that of the session that
+  -- the memory then is
   pub code-demand : Bytes (saidIn xs) → Demanded xs m′
   code-demand b =
       let d = demand (callsOf xs) (answered-bytes xs b) in

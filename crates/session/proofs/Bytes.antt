@@ -1,4 +1,5 @@
--- The bytes of a reply: runs of entries one after the other, the head that is written last, and the room of a tail and of the sets.
+-- The bytes of a reply: runs of entries one after the other, the head that is written last, and the room of a tail and
+-- of the sets.
 use Prim.Native.Nat.{ℕ, zero, suc, _+_, _*_, _-_, _≤_}
 use mathlib.Core.Path.{_≡_, refl, sym, ap, _∙_}
 use mathlib.Core.Bool.{false}

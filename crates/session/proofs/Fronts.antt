@@ -1,4 +1,5 @@
--- The words of a session beside its store are twenty-three, so what each of them holds after some are written computes. Assumes nothing.
+-- The words of a session beside its store are twenty-three, so what each of them holds after some are written computes.
+-- Assumes nothing.
 use Prim.Native.Nat.{ℕ, zero, suc, _≤_}
 use mathlib.Core.Path.{_≡_, refl, sym, _∙_, ap, subst}
 use mathlib.Core.List.{List, [], _∷_}
@@ -30,7 +31,11 @@ unfolding table
 first-words h zero le = refl
 first-words h (suc n) le = rw (first-words h n (omega arith)) (sym (take-suc h n 0 (omega arith)))
 
--- the words with no picture current and no previous Tid0 picture, with this one, with these limits, with this picture current
+pub whole-words : (h : List ℕ) → length h ≡ 23 → table (word h) 23 ≡ h
+whole-words h long = first-words h 23 (omega arith) ∙ take-all 23 h (omega arith)
+
+-- the words with no picture current and no previous Tid0 picture, with this one, with these limits, with this picture
+-- current
 abbrev pub idleWords : List ℕ → List ℕ
 idleWords h = sets h CURRENT (0 ∷ 0 ∷ 0 ∷ 0 ∷ 0 ∷ 0 ∷ 0 ∷ 0 ∷ 0 ∷ 0 ∷ 0 ∷ [])
 
@@ -51,7 +56,7 @@ begunWords c x next h =
 -- what is read after each kind of write
 module _ (h : List ℕ) (long : length h ≡ 23) where
   front-by : (w : List ℕ → List ℕ) (g : Front → Front) → frontIn (w (table (word h) 23)) ≡ g (frontIn (table (word h) 23)) → frontIn (w h) ≡ g (frontIn h)
-  front-by w g e = subst (λ (l : List ℕ). frontIn (w l) ≡ g (frontIn l)) (first-words h 23 (omega arith) ∙ take-all 23 h (omega arith)) e
+  front-by w g e = subst (λ (l : List ℕ). frontIn (w l) ≡ g (frontIn l)) (whole-words h long) e
 
   pub front-none : frontIn (noneWords h) ≡ idleFront (frontIn h) Prev.Nothing
   unfolding frontIn table

@@ -2,6 +2,7 @@ pub mod Entries
 pub mod Bytes
 pub mod Ways
 pub mod Fronts
+pub mod Layouts
 pub mod Slicing
 pub mod Wishing
 pub mod Saying

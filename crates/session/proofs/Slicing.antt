@@ -1,4 +1,5 @@
--- Lists records: the entry bytes are parts of the record, each way out of the order of refusals is one law, and what is accepted is ready to be listed.
+-- Lists records: the entry bytes are parts of the record, each way out of the order of refusals is one law, and what is
+-- accepted is ready to be listed.
 use Prim.Native.Nat.{ℕ, zero, suc, _+_, _-_, _≤_, _<_, max}
 use mathlib.Core.Path.{_≡_, refl, sym, ap, ap₂, _∙_}
 use mathlib.Core.List.{List, [], _∷_}

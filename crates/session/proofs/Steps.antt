@@ -11,7 +11,6 @@ use Rattle.wire.specs.Bytes.{over}
 use Rattle.paper.specs.Kinds.{configureKind, beginKind, listsKind, finishKind, abandonKind, replyTo, malformedReply}
 use Rattle.paper.specs.declared.Now.{Now}
 use Rattle.paper.specs.declared.Now.the-variants as Now
-use Rattle.paper.specs.Numbers.{aSurface}
 use Rattle.paper.specs.Records.{Slice, kindOf, lengthOf, bodyOk, wellFormed, limitsOf, fieldsOf, sliceOf}
 use Rattle.paper.specs.State.{onNow, allRefs}
 use Rattle.paper.specs.State as P
@@ -24,8 +23,8 @@ use Rattle.session.specs.View.{Memory, sessionIn}
 use Rattle.format.specs.Reads.{kindIn}
 use Rattle.session.specs.Said.{Answers, Does, WellFormed, Permitted}
 use Rattle.session.specs.declared.Target.{Target}
-use Rattle.session.specs.Target.{isBegin, withSurface, takenAs, fieldsWith, fieldsAt}
-use Rattle.session.proofs.Targets.{begin-formed, begin-kind, with-begin, with-fields, FitTarget, taken-other, taken-begin, taken-fields}
+use Rattle.session.specs.Target.{isBegin, takenAs, fieldsAt}
+use Rattle.session.proofs.Targets.{begin-formed, begin-kind, FitTarget, taken-other, taken-begin, taken-fields}
 
 -- ---- the kind that was read
 
@@ -93,12 +92,10 @@ module _ (v : P.Session) (r : List ℕ) where
   unfolding byKind
   decides k w = by-kind w ∙ ap arm (w .kind)
 
--- a well-formed begin: by its fields; with a surface that was chosen, by its fields with that one; and with its target, by the fields that this says
+-- a well-formed begin: by its fields; with a surface that was chosen, by its fields with that one; and with its target,
+-- by the fields that this says
 pub begin-decides : (v : P.Session) (r : List ℕ) → isBegin r ≡ true → decideOf v r ≡ beginOf v (fieldsOf r)
 begin-decides v r is = decides v r 2 (record { formed = begin-formed r is; kind = begin-kind r is })
-
-pub with-decides : (v : P.Session) (x : ℕ) (r : List ℕ) → isBegin r ≡ true → x < 4294967296 → decideOf v (withSurface x r) ≡ beginOf v (fieldsWith (aSurface x) r)
-with-decides v x r is fits = begin-decides v (withSurface x r) (with-begin x r ∙ is) ∙ ap (beginOf v) (with-fields x r is fits)
 
 taken-decides : (v : P.Session) (t : Target) (r : List ℕ) → FitTarget t → isBegin r ≡ true → decideOf v (takenAs t r) ≡ beginOf v (fieldsAt t r)
 taken-decides v t r f is = begin-decides v (takenAs t r) (taken-begin t r ∙ is) ∙ ap (beginOf v) (taken-fields t r f is)

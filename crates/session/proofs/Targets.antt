@@ -1,4 +1,5 @@
--- A record with a surface that the caller chose: nothing else in it changes, so a begin stays a begin, and its fields are its own with that surface. Assumes nothing.
+-- A record with a surface that the caller chose: nothing else in it changes, so a begin stays a begin, and its fields
+-- are its own with that surface. Assumes nothing.
 use Prim.Native.Nat.{ℕ, _+_, _*_, _-_, _/_, _%_, _≤_, _<_}
 use native.Mathlib.Omega.{arith}
 use mathlib.Core.Path.{_≡_, refl, sym, ap, ap₂, _∙_}

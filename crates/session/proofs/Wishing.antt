@@ -1,4 +1,5 @@
--- A wish that is put behind those that are there leaves them as they are, and reads back as itself, for its byte says both of its flags.
+-- A wish that is put behind those that are there leaves them as they are, and reads back as itself, for its byte says
+-- both of its flags.
 use Prim.Native.Nat.{ℕ, _+_, _*_, _<_, _≤_}
 use mathlib.Core.Path.{_≡_, refl, sym, ap, ap₂, _∙_}
 use mathlib.Core.Bool.{Bool, true, false, cond, _&&_, and-comm}

@@ -1,7 +1,8 @@
 -- The place of each word of `front`, beside the sets and the store, under the name that words.rt has for it.
 use Prim.Native.Nat.{ℕ}
 
--- whether configure was accepted, whether the next begin is first in the bitstream, whether it is first after end of sequence, and its serial
+-- whether configure was accepted, whether the next begin is first in the bitstream, whether it is first after end of
+-- sequence, and its serial
 abbrev pub CONFIGURED : ℕ
 CONFIGURED = 0
 

@@ -1,7 +1,9 @@
 -- The refusals, with the paper's number for each.
 use Prim.Native.Nat.{ℕ}
 use Rattle.session.specs.declared.Refusal.{Refusal}
-use Rattle.session.specs.declared.Refusal.the-variants.{Unconfigured, BadLimits, Busy, NoCurrent, OutOfRange, Outside, SurfaceHeld, SerialsSpent, StoreFull, NoCandidate, TooMany, BadEntry, Malformed, NoRoom}
+use Rattle.session.specs.declared.Refusal.the-variants.{Unconfigured, BadLimits, Busy, NoCurrent, OutOfRange}
+use Rattle.session.specs.declared.Refusal.the-variants.{Outside, SurfaceHeld, SerialsSpent, StoreFull}
+use Rattle.session.specs.declared.Refusal.the-variants.{NoCandidate, TooMany, BadEntry, Malformed, NoRoom}
 
 abbrev pub numberOf : Refusal → ℕ
 numberOf Unconfigured = 1

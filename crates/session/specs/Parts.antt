@@ -25,13 +25,15 @@ abbrev pub isWanted : Wanted → Bool
 isWanted (W.Is x) = true
 isWanted W.Outside = false
 
-pub record Wants (w : Wanted) (i : ℕ) (ps : List ℤ) (hs : List ℕ) (r : Bool) (ps′ : List ℤ) (hs′ : List ℕ) : Type 0 where
+pub record Wants (w : Wanted) (i : ℕ) (ps : List ℤ) (hs : List ℕ) (r : Bool) (ps′ : List ℤ)
+    (hs′ : List ℕ) : Type 0 where
   pub inside : r ≡ isWanted w
   pub at : (x : Wish) → w ≡ W.Is x → wishAt ps′ hs′ i ≡ x
   pub others : (j : ℕ) → (j ≡ i → ⊥) → wishAt ps′ hs′ j ≡ wishAt ps hs j
 
 -- some wishes, if all of their POCs do, from a place on; those before it are as they were
-pub record WantsAll (ws : List Wish) (from : ℕ) (ps : List ℤ) (hs : List ℕ) (r : Bool) (ps′ : List ℤ) (hs′ : List ℕ) : Type 0 where
+pub record WantsAll (ws : List Wish) (from : ℕ) (ps : List ℤ) (hs : List ℕ) (r : Bool) (ps′ : List ℤ)
+    (hs′ : List ℕ) : Type 0 where
   pub inside : r ≡ allB wishIn32 ws
   pub items : r ≡ true → wishesAt ps′ hs′ from (length ws) ≡ ws
   pub before : (j : ℕ) → j < from → wishAt ps′ hs′ j ≡ wishAt ps hs j

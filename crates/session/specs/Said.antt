@@ -30,7 +30,8 @@ pub record Refuses (kind number : ℕ) (before : List ℕ) (a : Answer) (after :
   pub answer : a ≡ record { number = number; len = restPlace }
   pub bytes : after ≡ over (framed kind number []) before
 
--- a refusal by a layer above the session: "reply buffer under 512 bytes" is number 14 and writes nothing, else six bytes say the layer's own number
+-- a refusal by a layer above the session: "reply buffer under 512 bytes" is number 14 and writes nothing, else six
+-- bytes say the layer's own number
 pub record Declines (kind number : ℕ) (before : List ℕ) (a : Answer) (after : List ℕ) : Type 0 where
   pub small : length before < replyLimit → (a ≡ record { number = 14; len = 0 }) × (after ≡ before)
   pub refuses : replyLimit ≤ length before → Refuses kind number before a after
@@ -40,8 +41,8 @@ pub record Answers (d : Decided) (before : List ℕ) (a : Answer) (after : List 
   pub answer : a ≡ record { number = d .number; len = length (bytesOf (d .reply)) }
   pub bytes : after ≡ over (bytesOf (d .reply)) before
 
--- and the memory m′ that is left of m: the next session; where the record is refused, every word as it was; a normal form if m was one; and the run of the sets
--- behind the next session's members as it was
+-- and the memory m′ that is left of m: the next session; where the record is refused, every word as it was; a normal
+-- form if m was one; and the run of the sets behind the next session's members as it was
 pub record Does (m : Memory) (d : Decided) (before : List ℕ) (a : Answer) (m′ : Memory) (after : List ℕ) : Type 0 where
   pub answers : Answers d before a after
   pub next : sessionIn m′ ≡ d .next
@@ -66,11 +67,14 @@ Calls decide front sets store reply a =
 -- where the run of the sets is not lent to it: whatever that holds
 abbrev pub CallsStore : (Session → Decided) → Lent → Lent → Lent → Answer → Type 0
 CallsStore decide front store reply a =
-    (xs : List ℕ) → Decides decide (memory (now (front .entry)) xs (now (store .entry))) (memory (now (front .exit)) xs (now (store .exit))) reply a
+    (xs : List ℕ)
+    → Decides decide (memory (now (front .entry)) xs (now (store .entry)))
+    (memory (now (front .exit)) xs (now (store .exit))) reply a
 
 -- where neither that run nor the store is lent to it
 abbrev pub CallsFront : (Session → Decided) → Lent → Lent → Answer → Type 0
-CallsFront decide front reply a = (xs t : List ℕ) → Decides decide (memory (now (front .entry)) xs t) (memory (now (front .exit)) xs t) reply a
+CallsFront decide front reply a =
+    (xs t : List ℕ) → Decides decide (memory (now (front .entry)) xs t) (memory (now (front .exit)) xs t) reply a
 
 -- "reply buffer under 512 bytes" is number 14: the calls behind it have the room
 pub record Roomy (reply : List ℕ) : Type 0 where
@@ -95,14 +99,22 @@ pub record Drained (h t : List ℕ) (kind : ℕ) (before : List ℕ) (a : Answer
 
 -- of what is lent to it
 abbrev pub Drains : ℕ → Lent → Lent → Lent → Answer → Type 0
-Drains kind front store reply a = Drained (now (front .entry)) (now (store .entry)) kind (now (reply .entry)) a (now (front .exit)) (now (store .exit)) (now (reply .exit))
+Drains kind front store reply a =
+    Drained (now (front .entry)) (now (store .entry)) kind (now (reply .entry)) a (now (front .exit))
+    (now (store .exit)) (now (reply .exit))
 
--- The contract of `step`: the answer, the whole buffer and the next session are those of the paper's `stepOf`; a refused record leaves every word as it was; memory in
--- its normal form stays so; and the run of the sets stays as it was behind the next session's members
+-- The contract of `step`: the answer, the whole buffer and the next session are those of the paper's `stepOf`; a
+-- refused record leaves every word as it was; memory in its normal form stays so; and the run of the sets stays as it
+-- was behind the next session's members
 pub record Permitted (m : Memory) (r before : List ℕ) (a : Answer) (m′ : Memory) (after : List ℕ) : Type 0 where
-  pub answer : a ≡ record { number = stepOf (sessionIn m) r (length before) .number; len = length (stepOf (sessionIn m) r (length before) .bytes) }
+  pub answer : a
+      ≡ record {
+        number = stepOf (sessionIn m) r (length before) .number;
+        len = length (stepOf (sessionIn m) r (length before) .bytes);
+      }
   pub bytes : after ≡ over (stepOf (sessionIn m) r (length before) .bytes) before
   pub next : sessionIn m′ ≡ stepOf (sessionIn m) r (length before) .next
   pub left : (a .number ≡ 0 → ⊥) → m′ ≡ m
   pub normal : NormalMemory m → NormalMemory m′
-  pub sets : (i : ℕ) → length (allRefs (stepOf (sessionIn m) r (length before) .next .refs)) ≤ i → word (m′ .sets) i ≡ word (m .sets) i
+  pub sets : (i : ℕ) → length (allRefs (stepOf (sessionIn m) r (length before) .next .refs)) ≤ i
+      → word (m′ .sets) i ≡ word (m .sets) i

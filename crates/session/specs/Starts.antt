@@ -58,7 +58,15 @@ prevFrom over q = cond over Prev.Nothing q
 
 abbrev pub currentFrom : ℕ → BeginFields → Start → Current
 currentFrom next h t =
-    record { serial = aSerial next; surface = h .surface; poc = t .poc; lsb = h .lsb; msb = t .msb; output = t .flags .output; valid = t .flags .valid }
+    record {
+      serial = aSerial next;
+      surface = h .surface;
+      poc = t .poc;
+      lsb = h .lsb;
+      msb = t .msb;
+      output = t .flags .output;
+      valid = t .flags .valid;
+    }
 
 abbrev pub toldFrom : ℕ → Start → Told
 toldFrom next t = record { poc = t .poc; flags = flagsNumber (t .flags); serial = aSerial next }
@@ -66,7 +74,8 @@ toldFrom next t = record { poc = t .poc; flags = flagsNumber (t .flags); serial 
 abbrev pub refsFrom : Sizes → Refs
 refsFrom x = record { before = x .before; after = x .after; long = x .long }
 
--- none of 1, 3, 5, 8 and 7, where l are the limits and h the fields of the begin before its entries, with the surface that it is to have
+-- none of 1, 3, 5, 8 and 7, where l are the limits and h the fields of the begin before its entries, with the surface
+-- that it is to have
 pub record Passed (s : Session) (r : List ℕ) (l : Limits) (h : BeginFields) : Type 0 where
   pub limits : l ≡ s .limits
   pub fields : h ≡ beginWith (h .surface) r
@@ -85,14 +94,19 @@ pub record Placed (s : Session) (r : List ℕ) (l : Limits) (h : BeginFields) (t
   pub inside : (in32 (t .msb) && in32 (t .poc)) ≡ true
 
 -- and the wishes, all of which do
-pub record Wished (s : Session) (r : List ℕ) (l : Limits) (h : BeginFields) (t : Start) (ps : List ℤ) (hs : List ℕ) : Type 0 where
+pub record Wished (s : Session) (r : List ℕ) (l : Limits) (h : BeginFields) (t : Start) (ps : List ℤ)
+    (hs : List ℕ) : Type 0 where
   pub placed : Placed s r l h t
   pub within : within s (fieldsWith (h .surface) r) ≡ true
   pub few : h .neg + h .pos + h .lt ≤ 16
   pub wishes : wishesIn ps hs (h .neg) (h .pos) (h .lt) ≡ wishes s (fieldsWith (h .surface) r)
 
 -- step 5 of the pictures that step 4 marked, and the reply, where the two runs of the sets are first and second
-pub record Tells (h : List ℕ) (first second : List Serial) (ps : List Picture) (p : List ℕ) (t : Start) (x : Sizes) (before : List ℕ) (a : Answer) (p′ after : List ℕ) : Type 0 where
-  pub pics : stored p′ ≡ beforeDecoding (t .flags .over && not (flagOf (word h ENDED))) (t .flags .prior) (limitsAt h) ps .pics
+pub record Tells (h : List ℕ) (first second : List Serial) (ps : List Picture) (p : List ℕ) (t : Start) (x : Sizes)
+    (before : List ℕ) (a : Answer) (p′ after : List ℕ) : Type 0 where
+  pub pics : stored p′ ≡ beforeDecoding (t .flags .over && not (flagOf (word h ENDED))) (t .flags .prior)
+      (limitsAt h) ps .pics
   pub normal : NormalForm p → NormalForm p′
-  pub says : Says (framed (replyTo beginKind) 0 (begunPart (toldFrom (word h NEXT) t) x first second ++ tailBytes (beforeDecoding (t .flags .over && not (flagOf (word h ENDED))) (t .flags .prior) (limitsAt h) ps .tail))) before a after
+  pub says : Says (framed (replyTo beginKind) 0 (begunPart (toldFrom (word h NEXT) t) x first second
+      ++ tailBytes (beforeDecoding (t .flags .over && not (flagOf (word h ENDED))) (t .flags .prior)
+      (limitsAt h) ps .tail))) before a after

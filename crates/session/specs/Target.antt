@@ -1,5 +1,5 @@
--- The surface of a begin as the caller has it: the one that its record names, or one that the caller chose. A begin for which one is chosen is taken as the record
--- with that surface in its field; every other record is taken as it is.
+-- The surface of a begin as the caller has it: the one that its record names, or one that the caller chose. A begin for
+-- which one is chosen is taken as the record with that surface in its field; every other record is taken as it is.
 use Prim.Native.Nat.{ℕ}
 use mathlib.Core.List.{List, _++_}
 use mathlib.Core.Bool.{Bool, cond, _&&_}

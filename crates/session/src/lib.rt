@@ -4,10 +4,12 @@
 mod begin;
 mod calls;
 mod lists;
+mod normal;
 mod records;
 mod replies;
 mod words;
 
+pub use normal::is_normal;
 ghost use mathlib.Core.Path.{_≡_};
 ghost use lib.ListN.{replicate};
 ghost use Rattle.paper.specs.State.{fresh as freshSession};

@@ -1,5 +1,6 @@
 // `front`: the 23 words of a session beside its sets and its store. Here is the place of each, how it is read and how
-// it is written; no other file reads or writes one of them. FrontPlaces.antt names the same places for the contracts.
+// it is written; no other file reads or writes one of them, but normal.rt, which looks how they are written.
+// FrontPlaces.antt names the same places for the contracts.
 use crate::FRONT;
 use derivation::ref_lists::Refs;
 use paper::Current;
@@ -23,56 +24,56 @@ ghost use Rattle.session.specs.Laid.{frontWords, frontOf, frontWordsOf};
 
 // Words 0 to 3: whether configure was accepted, whether the next begin is first in the bitstream,
 // whether it is first after end of sequence, and its serial.
-const CONFIGURED: usize = 0;
+pub(crate) const CONFIGURED: usize = 0;
 
-const FIRST: usize = 1;
+pub(crate) const FIRST: usize = 1;
 
-const ENDED: usize = 2;
+pub(crate) const ENDED: usize = 2;
 
-const NEXT: usize = 3;
+pub(crate) const NEXT: usize = 3;
 
 // Words 4 to 8: the limits that configure set.
-const K: usize = 4;
+pub(crate) const K: usize = 4;
 
-const CAPACITY: usize = 5;
+pub(crate) const CAPACITY: usize = 5;
 
-const BUFFERING: usize = 6;
+pub(crate) const BUFFERING: usize = 6;
 
-const REORDER: usize = 7;
+pub(crate) const REORDER: usize = 7;
 
-const LATENCY: usize = 8;
+pub(crate) const LATENCY: usize = 8;
 
 // Words 9 to 11: whether there is a previous Tid0 picture, its lsb and its MSB.
-const PREV: usize = 9;
+pub(crate) const PREV: usize = 9;
 
-const PREV_LSB: usize = 10;
+pub(crate) const PREV_LSB: usize = 10;
 
-const PREV_MSB: usize = 11;
+pub(crate) const PREV_MSB: usize = 11;
 
 // Words 12 to 19: whether a picture is current, and what is known of it.
-const CURRENT: usize = 12;
+pub(crate) const CURRENT: usize = 12;
 
-const SERIAL: usize = 13;
+pub(crate) const SERIAL: usize = 13;
 
-const SURFACE: usize = 14;
+pub(crate) const SURFACE: usize = 14;
 
-const POC: usize = 15;
+pub(crate) const POC: usize = 15;
 
-const LSB: usize = 16;
+pub(crate) const LSB: usize = 16;
 
-const MSB: usize = 17;
+pub(crate) const MSB: usize = 17;
 
-const OUTPUT: usize = 18;
+pub(crate) const OUTPUT: usize = 18;
 
-const VALID: usize = 19;
+pub(crate) const VALID: usize = 19;
 
 // Words 20 to 22: the sizes of its sets StCurrBefore, StCurrAfter and LtCurr, whose members lie one
 // behind the other in a run of their own.
-const BEFORE: usize = 20;
+pub(crate) const BEFORE: usize = 20;
 
-const AFTER: usize = 21;
+pub(crate) const AFTER: usize = 21;
 
-const LONG: usize = 22;
+pub(crate) const LONG: usize = 22;
 
 // The low 8 bits of a word.
 fn low8(x: u32) -> u8
@@ -89,7 +90,7 @@ fn low16(x: u32) -> u16
 }
 
 // Proof helper: states that the array has 23 words; compiles to nothing.
-fn count_front(words: [u32; FRONT]) -> usize
+pub(crate) fn count_front(words: [u32; FRONT]) -> usize
     ensures { λ r. ⌜ (r ≡ 23) × (length words ≡ 23) ⌝ }
 {
     FRONT
@@ -216,7 +217,8 @@ pub(crate) fn put_fresh(h: &mut [u32; FRONT])
 // Writes that no picture is current and that q is the previous Tid0 picture.
 pub(crate) fn put_idle(h: &mut [u32; FRONT], q: Prev)
     ensures front { λ _. ⌜ frontIn (now (h .exit)) ≡ idleFront (frontIn (now (h .entry))) q ⌝ }
-    ensures words { λ _. ⌜ ((f : Front) → now (h .entry) ≡ frontWords f → now (h .exit) ≡ frontWords (idleFront f q)) ⌝ }
+    ensures words { λ _. ⌜ ((f : Front) → now (h .entry) ≡ frontWords f
+        → now (h .exit) ≡ frontWords (idleFront f q)) ⌝ }
 {
     count_front(*h);
     h[CURRENT] = 0;

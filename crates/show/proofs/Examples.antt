@@ -1,4 +1,5 @@
--- Lines that the definition computes: the replies of document 01's whole exchange, a refusal, a tail, lists, and two that are damaged.
+-- Lines that the definition computes: the replies of document 01's whole exchange, a refusal, a tail, lists, and two
+-- that are damaged.
 use mathlib.Core.Path.{_≡_, refl}
 use mathlib.Core.List.{[], _∷_}
 use Rattle.paper.specs.Words.{flat}

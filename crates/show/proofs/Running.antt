@@ -1,4 +1,5 @@
--- Turn after turn: all that was read so far is whole replies, with their lines, and what waits; where the run ends because no more is read, no whole reply waits.
+-- Turn after turn: all that was read so far is whole replies, with their lines, and what waits; where the run ends
+-- because no more is read, no whole reply waits.
 use Prim.Native.Nat.{ℕ}
 use mathlib.Core.Path.{_≡_, refl, sym, ap, ap₂, _∙_}
 use mathlib.Core.List.{List, [], _++_, append-nil, append-assoc}

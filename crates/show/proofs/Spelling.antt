@@ -1,4 +1,5 @@
--- A serial of a list is spelled as what it stands for: the word where it is that of a missing picture, and else its digits.
+-- A serial of a list is spelled as what it stands for: the word where it is that of a missing picture, and else its
+-- digits.
 use Prim.Native.Nat.{ℕ}
 use mathlib.Core.Path.{_≡_, refl, ap}
 use mathlib.Core.Bool.{Bool, true, false, cond, _&&_}

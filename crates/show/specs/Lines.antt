@@ -20,7 +20,8 @@ use Rattle.show.specs.Lists.{named, tailText, setsText}
 -- the record kinds, by number; a question mark for any other, as the reply to a 13 has
 abbrev pub kindWords : List (List ℕ)
 kindWords =
-    ascii "?" ∷ ascii "configure" ∷ ascii "begin" ∷ ascii "lists" ∷ ascii "finish" ∷ ascii "drain" ∷ ascii "discard" ∷ ascii "end" ∷ ascii "abandon" ∷ []
+    ascii "?" ∷ ascii "configure" ∷ ascii "begin" ∷ ascii "lists" ∷ ascii "finish" ∷ ascii "drain" ∷ ascii "discard"
+    ∷ ascii "end" ∷ ascii "abandon" ∷ []
 
 unfoldable pub kindWord : ℕ → List ℕ
 kindWord k = getD kindWords k (ascii "?")
@@ -49,20 +50,24 @@ refusalWords =
 unfoldable pub refusalWord : ℕ → List ℕ
 refusalWord n = cond (eqb n 18) (ascii "none-free") (getD refusalWords n (ascii "unknown"))
 
--- "flags u8 (bit 0 NoRaslOutputFlag, 1 output flag, 2 valid for prevTid0Pic, 3 no output of prior pictures)": the words of those that
--- are set; where a spare bit is, the byte
+-- "flags u8 (bit 0 NoRaslOutputFlag, 1 output flag, 2 valid for prevTid0Pic, 3 no output of prior pictures)": the words
+-- of those that are set; where a spare bit is, the byte
 abbrev pub flagText : Bool → List ℕ → List ℕ
 flagText b word = cond b word []
 
 unfoldable pub flagsText : ℕ → Bool → Bool → Bool → Bool → List ℕ
 flagsText flags noRasl output valid noPrior =
     cond (ltb flags 16)
-    (flagText noRasl (ascii " norasl") ++ flagText output (ascii " output") ++ flagText valid (ascii " valid") ++ flagText noPrior (ascii " noprior"))
+    (flagText noRasl (ascii " norasl")
+    ++ flagText output (ascii " output")
+    ++ flagText valid (ascii " valid")
+    ++ flagText noPrior (ascii " noprior"))
     (ascii " flags=" ++ decimal flags)
 
 -- a refusal: the kind of the record, the number and its word
 unfoldable pub refusedText : ℕ → ℕ → List ℕ
-refusedText kind n = ascii "refused " ++ kindWord (kind - replyOffset) ++ ascii " " ++ decimal n ++ ascii " " ++ refusalWord n
+refusedText kind n =
+    ascii "refused " ++ kindWord (kind - replyOffset) ++ ascii " " ++ decimal n ++ ascii " " ++ refusalWord n
 
 unfoldable pub doneText : ℕ → Tail → List ℕ
 doneText kind t = ascii "done " ++ kindWord kind ++ tailText t
@@ -70,10 +75,12 @@ doneText kind t = ascii "done " ++ kindWord kind ++ tailText t
 -- what begin says of its picture, but for its sets
 unfoldable pub toldText : ℕ → Begun → List ℕ
 toldText flags b =
-    ascii "begun poc=" ++ integer (b .poc) ++ flagsText flags (b .noRasl) (b .output) (b .valid) (b .noPrior) ++ ascii " serial=" ++ decimal (b .serial .0)
+    ascii "begun poc=" ++ integer (b .poc) ++ flagsText flags (b .noRasl) (b .output) (b .valid) (b .noPrior)
+    ++ ascii " serial=" ++ decimal (b .serial .0)
 
 unfoldable pub listedText : List Serial → List Serial → List ℕ
-listedText l0 l1 = ascii "lists" ++ named (ascii " l0=") serialText (serialNos l0) ++ named (ascii " l1=") serialText (serialNos l1)
+listedText l0 l1 =
+    ascii "lists" ++ named (ascii " l0=") serialText (serialNos l0) ++ named (ascii " l1=") serialText (serialNos l1)
 
 -- A reply as text; `flags` is the flags byte that a begun picture has
 unfoldable pub replyText : ℕ → Reply → List ℕ
@@ -84,7 +91,9 @@ replyText flags (Reply.Listed l0 l1) = listedText l0 l1
 
 -- an accepted begin, by its bytes
 abbrev pub begunAt : Reading → List ℕ → List ℕ
-begunAt st bs = toldText (u8 bs flagsPlace) (readBegun (drop restPlace bs)) ++ setsText (readBegun (drop restPlace bs) .sets) ++ tailText (readTail st (drop (wordWidth * setWords (drop restPlace bs)) (drop begunMembers (drop restPlace bs))))
+begunAt st bs =
+    toldText (u8 bs flagsPlace) (readBegun (drop restPlace bs)) ++ setsText (readBegun (drop restPlace bs) .sets)
+    ++ tailText (readTail st (drop (wordWidth * setWords (drop restPlace bs)) (drop begunMembers (drop restPlace bs))))
 
 unfoldable pub damagedText : List ℕ → List ℕ
 damagedText bs = ascii "damaged reply of " ++ decimal (length bs) ++ ascii " bytes, kind " ++ decimal (kindOf bs)

@@ -26,7 +26,12 @@ shownText p = decimal (p .serial .0) ++ ascii ":" ++ decimal (p .surface .0) ++ 
 
 -- the picture handed out that stands at a place of a reply
 abbrev pub shownAt : Reading → List ℕ → ℕ → Shown
-shownAt st r at = record { serial = aSerial (u32 r at); surface = aSurface (u32 r (at + wordWidth)); poc = i32 r (at + 2 * wordWidth) }
+shownAt st r at =
+    record {
+      serial = aSerial (u32 r at);
+      surface = aSurface (u32 r (at + wordWidth));
+      poc = i32 r (at + 2 * wordWidth);
+    }
 
 unfoldable pub tailText : Tail → List ℕ
 tailText t =
@@ -42,7 +47,9 @@ shortText x =
     ++ named (ascii " foll=") serialText (serialNos (x .foll))
 
 unfoldable pub longText : Sets → List ℕ
-longText x = named (ascii " ltcurr=") serialText (serialNos (x .ltCurr)) ++ named (ascii " ltfoll=") serialText (serialNos (x .ltFoll))
+longText x =
+    named (ascii " ltcurr=") serialText (serialNos (x .ltCurr))
+    ++ named (ascii " ltfoll=") serialText (serialNos (x .ltFoll))
 
 abbrev pub setsText : Sets → List ℕ
 setsText x = shortText x ++ longText x

@@ -21,14 +21,16 @@ numberAfter n [] = n
 numberAfter n (r ∷ rs) = numberAfter (following n) rs
 
 -- a line put behind the first `made` bytes
-pub record Added (st : Reading) (n : ℕ) (r : List ℕ) (made : ℕ) (before : List ℕ) (len : ℕ) (after : List ℕ) : Type 0 where
+pub record Added (st : Reading) (n : ℕ) (r : List ℕ) (made : ℕ) (before : List ℕ) (len : ℕ)
+    (after : List ℕ) : Type 0 where
   pub size : len ≡ length (lineOf st n r)
   pub fits : made + len ≤ length before
   pub bytes : after ≡ laidAt made (lineOf st n r) before
 
--- the first `taken` bytes are whole replies, their lines are put into the output, `next` is the number behind the last, and `on` what
--- the reader carries behind it
-pub record Lines (st : Reading) (n : ℕ) (input : List ℕ) (on : Reading) (next taken made : ℕ) (before output : List ℕ) : Type 0 where
+-- the first `taken` bytes are whole replies, their lines are put into the output, `next` is the number behind the last,
+-- and `on` what the reader carries behind it
+pub record Lines (st : Reading) (n : ℕ) (input : List ℕ) (on : Reading) (next taken made : ℕ)
+    (before output : List ℕ) : Type 0 where
   pub read : List (List ℕ)
   pub whole : allB isWhole read ≡ true
   pub cut : take taken input ≡ joined read

@@ -76,7 +76,8 @@ pub(crate) fn put_list(
 // A picture handed out, "(serial u32, surface u32, POC i32)".
 fn put_shown(d: &mut [u8], at: usize, st: Reading, reply: &[u8], from: usize) -> usize
     requires { ⌜ (from ≤ 20000) × (at + 33 ≤ length (now d)) ⌝ }
-    ensures { λ r. ⌜ Wrote (now (d .entry)) at (shownText (shownAt st (now (reply .entry)) from)) 33 r (now (d .exit)) ⌝ }
+    ensures { λ r. ⌜ Wrote (now (d .entry)) at (shownText (shownAt st (now (reply .entry)) from)) 33 r
+        (now (d .exit)) ⌝ }
 {
     let a = text::put_u32(d, at, wire::u32_at(reply, from));
     let b = text::put(d, a, b":");

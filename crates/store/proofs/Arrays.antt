@@ -1,4 +1,5 @@
--- A local array of declared structs, lent: its first elements as a `&[T]`, the whole as a `&mut [T; n]`, and taken back. Assumes nothing.
+-- A local array of declared structs, lent: its first elements as a `&[T]`, the whole as a `&mut [T; n]`, and taken
+-- back. Assumes nothing.
 use mathlib.Core.Path.{_≡_, refl, sym, _∙_, subst}
 use Prim.Native.Nat.{ℕ, _<_}
 use mathlib.Core.List.{List, [], _∷_, _++_}

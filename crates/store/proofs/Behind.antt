@@ -1,4 +1,5 @@
--- Steps of a walk for an array behind a reference: a `&κ [R; n]` is looked into and shut, a `&κ mut [R; n]` is opened and closed, each with its elements as a row (`denote.Index`). Assumes nothing.
+-- Steps of a walk for an array behind a reference: a `&κ [R; n]` is looked into and shut, a `&κ mut [R; n]` is opened
+-- and closed, each with its elements as a row (`denote.Index`). Assumes nothing.
 use mathlib.Core.Path.{_≡_}
 use Prim.Native.Nat.{ℕ}
 use mathlib.Core.List.{List, _∷_}

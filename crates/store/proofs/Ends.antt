@@ -1,4 +1,5 @@
--- Whole operations: what each part did, one after the other, is what the definition does; what may still happen has room; and an emptying throws nothing away, for none waits any more when the rest leaves. Assumes nothing.
+-- Whole operations: what each part did, one after the other, is what the definition does; what may still happen has
+-- room; and an emptying throws nothing away, for none waits any more when the rest leaves. Assumes nothing.
 use mathlib.Core.Path.{_≡_, refl, sym, ap, ap₂, _∙_, subst}
 use mathlib.Core.Bool.{Bool, true, false}
 use mathlib.Core.List.{List, [], _∷_, _++_, append-nil, append-assoc, map}

@@ -1,4 +1,5 @@
--- What a whole operation works on is what the words hold, and where every place is used, one place less. Assumes nothing.
+-- What a whole operation works on is what the words hold, and where every place is used, one place less. Assumes
+-- nothing.
 use Prim.Native.Nat.{ℕ, zero, suc, _+_, _≤_, _<_, min}
 use mathlib.Core.Path.{_≡_, refl, sym, ap, _∙_}
 use mathlib.Core.Bool.{Bool, true, false}

@@ -1,5 +1,5 @@
--- Walks that write places of an array: each place written holds what the walk gives it, every other is as it was. What is picked out on a walk is what the paper
--- keeps. Assumes nothing.
+-- Walks that write places of an array: each place written holds what the walk gives it, every other is as it was. What
+-- is picked out on a walk is what the paper keeps. Assumes nothing.
 use Prim.Native.Nat.{ℕ, zero, suc, _+_, _≤_, _<_}
 use mathlib.Core.Path.{_≡_, refl, sym, ap, _∙_}
 use mathlib.Core.Bool.{Bool, true, false, cond, not, Bool·beq}

@@ -1,4 +1,5 @@
--- What the searches by reference share: machine values, pieces of a body, the call of a function that tells its result, and the search place by place. Assumes nothing.
+-- What the searches by reference share: machine values, pieces of a body, the call of a function that tells its result,
+-- and the search place by place. Assumes nothing.
 use Prim.Native.Nat.{ℕ, zero, suc}
 use mathlib.Core.Path.{_≡_, refl, sym, subst}
 use mathlib.Core.Bool.{Bool, true, false, not}
@@ -65,7 +66,8 @@ after (suc n) (call g xs d) = skip
 
 -- ---- the call of a function that tells its result
 
--- what stands after a call whose `ensures` is that the result is x: what comes back of what it was lent, and x at its machine value
+-- what stands after a call whose `ensures` is that the result is x: what comes back of what it was lent, and x at its
+-- machine value
 pub told : {M : Type 1} (𝓤 : URA M) (H : Heap 𝓤) (A : Atoms 𝓤) (W : Given 𝓤 H A) (R : RattleType) (x : R .Denot) (i : Item 𝓤) {Y : Type 0} (L : Y → Fml) (u : Val)
     → ent 𝓤 (H .⇛ (ex 𝓤 (λ (r : R .Denot). sep 𝓤 (sep 𝓤 (mean 𝓤 H A i) (sem 𝓤 H A (R .own r (u ∷ [])))) (ex 𝓤 (λ (y : Y). sep 𝓤 (sem 𝓤 H A (L y)) (fact 𝓤 (r ≡ x))))))) (H .⇛ (guard 𝓤 (Is R x (u ∷ [])) (mean 𝓤 H A i)))
 told 𝓤 H A W R x i {Y} L u =

@@ -1,5 +1,5 @@
--- Pictures that leave: those kept move up, place after place, and no place is written before it is read. What is taken out of the pictures of a walk stands
--- behind what stood there. Assumes nothing.
+-- Pictures that leave: those kept move up, place after place, and no place is written before it is read. What is taken
+-- out of the pictures of a walk stands behind what stood there. Assumes nothing.
 use Prim.Native.Nat.{ℕ, _+_, _≤_, _<_}
 use mathlib.Core.Path.{_≡_, refl, sym, ap, _∙_}
 use mathlib.Core.Bool.{Bool, true, false}

@@ -1,4 +1,5 @@
--- What a function that hands its lent run of pictures on to `first_in` has to show, and how its walk goes on. Assumes nothing.
+-- What a function that hands its lent run of pictures on to `first_in` has to show, and how its walk goes on. Assumes
+-- nothing.
 use Prim.Native.Nat.{ℕ, _^_}
 use mathlib.Core.Path.{_≡_, refl, sym, ap, subst}
 use mathlib.Core.Bool.{Bool}

@@ -1,4 +1,5 @@
--- What is kept of the pictures at the first places, one place more; and a picture written behind the first. Assumes nothing.
+-- What is kept of the pictures at the first places, one place more; and a picture written behind the first. Assumes
+-- nothing.
 use Prim.Native.Nat.{ℕ, _+_, _<_}
 use mathlib.Core.Path.{_≡_, refl, ap, _∙_}
 use mathlib.Core.Bool.{Bool, true, false, cond}

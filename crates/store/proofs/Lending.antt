@@ -1,4 +1,5 @@
--- The forms by reference and those by value answer alike: their contracts say one definition, here of a lent run that is the stored pictures of a store.
+-- The forms by reference and those by value answer alike: their contracts say one definition, here of a lent run that
+-- is the stored pictures of a store.
 use Prim.Native.Nat.{ℕ, _^_, min}
 use mathlib.Core.Path.{_≡_, sym, ap, _∙_}
 use mathlib.Core.Bool.{Bool}

@@ -1,5 +1,6 @@
 pub mod StoreWords
 pub mod Tidy
+pub mod Deciding
 pub mod SearchLaws
 pub mod RawPart
 pub mod Walks

@@ -1,5 +1,6 @@
--- Step 4: what each entry finds at its own place is what the paper's searches find, so the places that are left have the paper's marks and the two runs hold the
--- five sets; to be in one of two lists is to be in either, whatever their order. Assumes nothing.
+-- Step 4: what each entry finds at its own place is what the paper's searches find, so the places that are left have
+-- the paper's marks and the two runs hold the five sets; to be in one of two lists is to be in either, whatever their
+-- order. Assumes nothing.
 use Prim.Native.Nat.{ℕ, _+_, _-_, _^_, _≤_, _<_, min}
 use mathlib.Core.Path.{_≡_, refl, sym, ap, ap₂, _∙_}
 use mathlib.Core.Bool.{Bool, true, false, cond, not, _||_}
@@ -73,7 +74,8 @@ parts f q p (x ∷ xs) =
     right true false c d e = refl
     right false b c d e = e
 
--- the five sets in the reply's order, against the entries in theirs: neg, pos and lt ones, the used ones and the others together
+-- the five sets in the reply's order, against the entries in theirs: neg, pos and lt ones, the used ones and the others
+-- together
 any-order : (b a f g l m : Bool) → ((((b || a) || (f || g)) || l) || m) ≡ (((b || f) || (a || g)) || (l || m))
 any-order true a f g l m = refl
 any-order false true true g l m = refl

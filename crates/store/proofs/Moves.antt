@@ -1,4 +1,5 @@
--- One thing after the other: what happened so far and the turns that are left are all the turns, and a turn that does nothing is the last. Assumes nothing.
+-- One thing after the other: what happened so far and the turns that are left are all the turns, and a turn that does
+-- nothing is the last. Assumes nothing.
 use mathlib.Core.Path.{_≡_, refl, sym, ap, _∙_}
 use mathlib.Core.List.{List, append-nil, append-assoc}
 use Prim.Native.Nat.{ℕ, zero, suc, _+_, _-_, _≤_, _<_}

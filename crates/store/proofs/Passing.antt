@@ -1,5 +1,5 @@
--- Pictures of a serial are handed out in one walk: they leave, or stay and no longer wait; the others move up, no place is written before it is read, and what is
--- written is what the walk sees. Assumes nothing.
+-- Pictures of a serial are handed out in one walk: they leave, or stay and no longer wait; the others move up, no place
+-- is written before it is read, and what is written is what the walk sees. Assumes nothing.
 use Prim.Native.Nat.{ℕ, _+_, _≤_, _<_}
 use mathlib.Core.Path.{_≡_, refl, sym, ap, _∙_}
 use mathlib.Core.Bool.{Bool, true, false, cond, not, _&&_, and-true, and-false}
@@ -57,7 +57,8 @@ module _ (n : Serial) (f : ℕ → Picture) (i : ℕ) where
 
 -- ---- the walk
 
--- the first k places hold what the first i of ps₀ have become, and the walk has seen them; the places from i on are as they were
+-- the first k places hold what the first i of ps₀ have become, and the walk has seen them; the places from i on are as
+-- they were
 pub record Passed (ps₀ : List Picture) (n : Serial) (leaves : Bool) (latency : ℕ) (ps : List Picture) (c : Scan) (k i : ℕ) : Type 0 where
   pub few : k ≤ i
   pub long : length ps ≡ 16

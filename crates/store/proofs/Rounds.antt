@@ -1,4 +1,5 @@
--- A round: one picture handed out is one turn of the definition on the pictures themselves, and where none is due or none waits the turns that are left do nothing. Assumes nothing.
+-- A round: one picture handed out is one turn of the definition on the pictures themselves, and where none is due or
+-- none waits the turns that are left do nothing. Assumes nothing.
 use mathlib.Core.Path.{_≡_, refl, sym, ap, _∙_, subst}
 use mathlib.Core.Bool.{Bool, true, false, cond, not, _||_, or-false}
 use mathlib.Core.List.{List, [], _∷_, _++_, append-nil}

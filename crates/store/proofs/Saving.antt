@@ -1,4 +1,5 @@
--- A store read from its words and written to them, picture after picture: those before a place are read or written, and what was tidy stays so. Assumes nothing.
+-- A store read from its words and written to them, picture after picture: those before a place are read or written, and
+-- what was tidy stays so. Assumes nothing.
 use Prim.Native.Nat.{ℕ, _+_, _≤_, _<_, max}
 use mathlib.Core.Path.{_≡_, sym, _∙_, subst}
 use mathlib.Core.List.{List, map}

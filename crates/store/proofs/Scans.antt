@@ -1,4 +1,5 @@
--- A walk over the places: what it has seen of the first i is what the definitions find in them, one picture more at a time. Assumes nothing.
+-- A walk over the places: what it has seen of the first i is what the definitions find in them, one picture more at a
+-- time. Assumes nothing.
 use mathlib.Core.Path.{_≡_, refl, sym, ap, _∙_}
 use mathlib.Core.Logic.{⊎-elim}
 use mathlib.Core.Bool.{Bool, true, false, cond, _&&_, _||_, or-false}

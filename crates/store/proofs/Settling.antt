@@ -1,4 +1,5 @@
--- What the changes of a lent run of pictures share: pieces of a body, the machine values, the list turn by turn, and a local array that is lent and comes back. Assumes nothing.
+-- What the changes of a lent run of pictures share: pieces of a body, the machine values, the list turn by turn, and a
+-- local array that is lent and comes back. Assumes nothing.
 use mathlib.Core.Path.{refl, ap, subst}
 use Prim.Native.Nat.{ℕ, zero, suc}
 use mathlib.Core.List.{List, [], _∷_}
@@ -69,7 +70,8 @@ repeat-each R x u is (suc n) = (is, repeat-each R x u is n)
 pub repeat-is : (R : RattleType) (n : ℕ) (x : R .Denot) (u : Val) → Is R x (u ∷ []) → Is (Array R n) (replicate n x) (arrayVal (replicate n u) ∷ [])
 repeat-is R n x u is = (replicate n u, ((refl, length-replicate n x), repeat-each R x u is n))
 
--- ---- a local array of declared structs, at the machine value that its elements settle: lent and taken back, as `Arrays` has it at any
+-- ---- a local array of declared structs, at the machine value that its elements settle: lent and taken back, as
+-- `Arrays` has it at any
 
 module _ {M : Type 1} (𝓤 : URA M) (H : Heap 𝓤) (A : Atoms 𝓤) (W : Given 𝓤 H A) (R : RattleType) (val : R .Denot → List Val) (tells : Tells R (Is R) val) (n : ℕ) where
   abbrev Good : List (R .Denot) → Type 0

@@ -1,4 +1,5 @@
--- A write to the words of one place changes the picture there and no other, for the words of two places are apart. Assumes nothing.
+-- A write to the words of one place changes the picture there and no other, for the words of two places are apart.
+-- Assumes nothing.
 use Prim.Native.Nat.{ℕ, zero, suc, _+_, _*_, _≤_, _<_, min}
 use lib.Dec.{eqb, leb}
 use borrow.Author.Tests.{eqb-true, eqb-false, leb-true, leb-false, le-leb, lt-leb}
@@ -70,7 +71,8 @@ elsewhere t i f v j lf n =
 
 -- ---- a place that is written as its picture is
 
--- the words of a POC, a mark and a flag are those that what they say is written as; of the other three there is nothing to say
+-- the words of a POC, a mark and a flag are those that what they say is written as; of the other three there is nothing
+-- to say
 pub record Spells (c d e : ℕ) : Type 0 where
   pub poc : c ≡ ofZ w32 (toZ w32 c)
   pub mark : d ≡ markWord (markOf d)

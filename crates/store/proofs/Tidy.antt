@@ -1,5 +1,5 @@
--- The normal form: what is written to a place leaves every place written as its picture is, and the places from the length on are blanked. Two stores in normal
--- form with the same pictures have the same words. Assumes nothing.
+-- The normal form: what is written to a place leaves every place written as its picture is, and the places from the
+-- length on are blanked. Two stores in normal form with the same pictures have the same words. Assumes nothing.
 use Prim.Native.Nat.{ℕ, zero, suc, _+_, _*_, _-_, _/_, _%_, _≤_, _<_}
 use mathlib.Core.Path.{_≡_, refl, sym, ap, _∙_}
 use mathlib.Core.List.{List}

@@ -1,4 +1,5 @@
--- Any two results that the contract of a whole operation permits are equal: in the stored pictures, in the tail, in the sets.
+-- Any two results that the contract of a whole operation permits are equal: in the stored pictures, in the tail, in the
+-- sets.
 use Prim.Native.Nat.{ℕ}
 use mathlib.Core.Path.{_≡_, sym, ap, _∙_}
 use mathlib.Core.List.{List}

@@ -48,7 +48,11 @@ lowerBy (At j y) i z = cond (ltZ z y) (At i z) (At j y)
 abbrev pub seenBy : Scan → ℕ → Picture → ℕ → Scan
 seenBy c i p latency =
     cond (p .waiting)
-    (record { waiting = c .waiting + 1; late = c .late || leb latency (p .count); lowest = lowerBy (c .lowest) i (p .poc) })
+    (record {
+      waiting = c .waiting + 1;
+      late = c .late || leb latency (p .count);
+      lowest = lowerBy (c .lowest) i (p .poc);
+    })
     c
 
 -- what a walk over the pictures finds: how many wait, whether one of them is late, and the lowest
@@ -99,7 +103,8 @@ pub record Bumps (ps : List Picture) (n : ℕ) (serial : Serial) (leaves : Bool)
   pub few : r .len ≤ n
   pub scan : Scans (r .places) (r .len) latency (r .scan)
 
--- what a call has done to the words that a store is lent in: the pictures left in it, and the whole tail; a normal form is kept
+-- what a call has done to the words that a store is lent in: the pictures left in it, and the whole tail; a normal form
+-- is kept
 pub record Leaves (m : Output.Moved) (t t′ : List ℕ) (x : Moved) : Type 0 where
   pub pics : stored t′ ≡ m .pics
   pub tail : HoldsTail x (m .tail)

@@ -1,3 +1,4 @@
+pub mod Decides
 pub mod Walks
 pub mod StoreWords
 pub mod Places

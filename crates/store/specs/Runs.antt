@@ -54,7 +54,8 @@ changed d g (suc n) xs = set (changed d g n xs) n (g (getD (changed d g n xs) n 
 
 -- what the entry at i finds among these pictures
 abbrev pub memberFor : Bool → ℕ → List Picture → List ℤ → List ℕ → ℕ → Serial
-memberFor long k ps pocs hows i = memberOf (foundOf (passing (soughtFor long k (getD pocs i (pos 0)) (bit 1 (getD hows i 0)))) ps)
+memberFor long k ps pocs hows i =
+    memberOf (foundOf (passing (soughtFor long k (getD pocs i (pos 0)) (bit 1 (getD hows i 0)))) ps)
 
 -- n members from a place on
 abbrev pub membersAt : List Serial → ℕ → ℕ → List Serial

@@ -1,5 +1,5 @@
--- A store in lent words: sixteen places of six words, and behind them how many are used. Any words are some store: a length over 16 counts as 16, a flag is
--- on unless its word is 0, and a mark that is no number of one is none.
+-- A store in lent words: sixteen places of six words, and behind them how many are used. Any words are some store: a
+-- length over 16 counts as 16, a flag is on unless its word is 0, and a mark that is no number of one is none.
 use Prim.Native.Nat.{ℕ, _+_, _*_, _≤_, _<_, min}
 use mathlib.Core.Path.{_≡_}
 use mathlib.Core.Bool.{Bool, cond, not}
@@ -59,14 +59,21 @@ stored store = pictures store (countIn store)
 
 -- the six words at place i, and those that a picture is written as
 abbrev pub wordsAt : List ℕ → ℕ → List ℕ
-wordsAt store i = word store (6 * i) ∷ word store (6 * i + 1) ∷ word store (6 * i + 2) ∷ word store (6 * i + 3) ∷ word store (6 * i + 4) ∷ word store (6 * i + 5) ∷ []
+wordsAt store i =
+    word store (6 * i) ∷ word store (6 * i + 1) ∷ word store (6 * i + 2) ∷ word store (6 * i + 3)
+    ∷ word store (6 * i + 4) ∷ word store (6 * i + 5) ∷ []
 
 abbrev pub pictureWords : Picture → List ℕ
-pictureWords p = p .serial .0 ∷ p .surface .0 ∷ ofZ w32 (p .poc) ∷ markWord (p .mark) ∷ flagWord (p .waiting) ∷ p .count ∷ []
+pictureWords p =
+    p .serial .0 ∷ p .surface .0 ∷ ofZ w32 (p .poc) ∷ markWord (p .mark) ∷ flagWord (p .waiting) ∷ p .count ∷ []
 
 -- place i is written as its picture is
 abbrev pub Neat : List ℕ → ℕ → Type 0
 Neat store i = wordsAt store i ≡ pictureWords (pictureAt store i)
+
+-- place i of a store of which the first n places are used: written as its picture is, and behind those there is none
+abbrev pub InOrder : List ℕ → ℕ → ℕ → Type 0
+InOrder store n i = Neat store i × (n ≤ i → pictureAt store i ≡ blank)
 
 -- every place is, and behind the first n there is none
 pub record Tidy (store : List ℕ) (n : ℕ) : Type 0 where

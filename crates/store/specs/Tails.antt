@@ -1,5 +1,5 @@
--- A tail by value: the pictures handed out, the serials thrown away and the surfaces released, each in places of its own type with their number beside them, and
--- blank behind it.
+-- A tail by value: the pictures handed out, the serials thrown away and the surfaces released, each in places of its
+-- own type with their number beside them, and blank behind it.
 use Prim.Native.Nat.{ℕ, _+_, _≤_}
 use mathlib.Core.Path.{_≡_}
 use mathlib.Core.Bool.{Bool, not, _||_}
@@ -57,7 +57,12 @@ pub record HoldsTail (x : Moved) (y : Output.Tail) : Type 0 where
   pub released : Padded 17 noSurface (x .released) (x .freed) (y .released)
 
 abbrev pub tailIn : Moved → Output.Tail
-tailIn x = record { handed = used (x .shown) (x .handed); thrown = used (x .dropped) (x .thrown); released = used (x .freed) (x .released) }
+tailIn x =
+    record {
+      handed = used (x .shown) (x .handed);
+      thrown = used (x .dropped) (x .thrown);
+      released = used (x .freed) (x .released);
+    }
 
 abbrev pub GoodTail : Moved → Type 0
 GoodTail x = HoldsTail x (tailIn x)
@@ -89,7 +94,11 @@ pub record HoldsParts (x : Moved) (ps : List Picture) (n : ℕ) (h : Handed) (t 
 -- ---- the pictures at the first n places, and the tail so far
 
 abbrev pub movedIn : List Picture → ℕ → Handed → Released → Output.Moved
-movedIn ps n h x = record { pics = front ps n; tail = record { handed = handedIn h; thrown = []; released = releasedIn x } }
+movedIn ps n h x =
+    record {
+      pics = front ps n;
+      tail = record { handed = handedIn h; thrown = []; released = releasedIn x };
+    }
 
 -- the same where none is handed out yet
 abbrev pub startedIn : List Picture → ℕ → Released → Output.Moved
@@ -115,16 +124,31 @@ unused all p = all || not (inUse p)
 -- all that are stored leave, and are released
 pub record Releases (m r : Moved) : Type 0 where
   pub len : r .len ≡ 0
-  pub tail : HoldsTail r (record { handed = tailIn m .handed; thrown = tailIn m .thrown; released = tailIn m .released ++ map surfaceOf (front (m .places) (m .len)) })
+  pub tail : HoldsTail r
+      (record {
+        handed = tailIn m .handed;
+        thrown = tailIn m .thrown;
+        released = tailIn m .released ++ map surfaceOf (front (m .places) (m .len));
+      })
 
 -- those that wait are thrown away
 pub record Throws (m r : Moved) : Type 0 where
   pub places : r .places ≡ m .places
   pub len : r .len ≡ m .len
-  pub tail : HoldsTail r (record { handed = tailIn m .handed; thrown = tailIn m .thrown ++ map serialOf (keep waits (front (m .places) (m .len))); released = tailIn m .released })
+  pub tail : HoldsTail r
+      (record {
+        handed = tailIn m .handed;
+        thrown = tailIn m .thrown ++ map serialOf (keep waits (front (m .places) (m .len)));
+        released = tailIn m .released;
+      })
 
 -- what x handed out stands in front of what y did; all else is y's
 pub record Follows (x y r : Moved) : Type 0 where
   pub places : r .places ≡ y .places
   pub len : r .len ≡ y .len
-  pub tail : HoldsTail r (record { handed = tailIn x .handed ++ tailIn y .handed; thrown = tailIn y .thrown; released = tailIn y .released })
+  pub tail : HoldsTail r
+      (record {
+        handed = tailIn x .handed ++ tailIn y .handed;
+        thrown = tailIn y .thrown;
+        released = tailIn y .released;
+      })

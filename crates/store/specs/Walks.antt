@@ -66,13 +66,30 @@ surfaceOf p = p .surface
 
 -- a picture where there is none
 abbrev pub blank : Picture
-blank = record { serial = record { 0 = 0 }; surface = record { 0 = 0 }; poc = pos 0; mark = Unmarked; waiting = false; count = 0 }
+blank =
+    record {
+      serial = record { 0 = 0 };
+      surface = record { 0 = 0 };
+      poc = pos 0;
+      mark = Unmarked;
+      waiting = false;
+      count = 0;
+    }
 
 -- "it no longer waits"
 abbrev pub quieted : Picture → Picture
-quieted p = record { serial = p .serial; surface = p .surface; poc = p .poc; mark = p .mark; waiting = false; count = p .count }
+quieted p =
+    record {
+      serial = p .serial;
+      surface = p .surface;
+      poc = p .poc;
+      mark = p .mark;
+      waiting = false;
+      count = p .count;
+    }
 
--- what is done to a picture that is read: nothing, "every stored count rises by 1", "IRAP with NoRaslOutputFlag unmarks all"
+-- what is done to a picture that is read: nothing, "every stored count rises by 1", "IRAP with NoRaslOutputFlag unmarks
+-- all"
 abbrev pub changeBy : Change → Picture → Picture
 changeBy Change.Nothing p = p
 changeBy Change.Raise p = raised p

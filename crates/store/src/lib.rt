@@ -5,6 +5,7 @@
 mod bumping;
 mod lent;
 mod marks;
+mod normal;
 mod operations;
 mod pictures;
 mod removal;
@@ -16,6 +17,7 @@ pub use lent::find_ref_by_poc_in;
 pub use lent::find_ref_by_poc_masked_in;
 pub use lent::find_short_term_ref_by_poc_in;
 pub use lent::set_mark;
+pub use normal::is_normal;
 pub use operations::abandon;
 pub use searches::find_ref_by_poc;
 pub use searches::find_ref_by_poc_masked;

@@ -1,6 +1,6 @@
 // The words that a host lends a store in: sixteen places of six words, and behind them how many are used. No other file
-// of the store knows them. A store is read from them (`load`) and written back (`save`); each whole operation does
-// both.
+// of the store knows them, but normal.rt, which looks how they are written. A store is read from them (`load`) and
+// written back (`save`); each whole operation does both.
 ghost use mathlib.Core.Path.{_≡_};
 ghost use mathlib.Core.Bool.{cond};
 ghost use mathlib.Core.List.{[], map};
@@ -14,7 +14,8 @@ ghost use Rattle.paper.specs.Output.{emptied, beforeDecoding};
 ghost use Rattle.paper.specs.Calls.{finished, drained, discarded};
 ghost use Rattle.paper.specs.declared.Now.the-variants.{Is};
 ghost use Rattle.store.specs.Walks.{blank, changeBy, unmarkIf};
-ghost use Rattle.store.specs.StoreWords.{flagOf, flagWord, markOf, markWord, pictureAt, pictures, stored, countIn};
+ghost use Rattle.store.specs.StoreWords.{flagOf, flagWord, markOf, markWord, pictureAt, pictures};
+ghost use Rattle.store.specs.StoreWords.{stored, countIn};
 ghost use Rattle.store.specs.StoreWords.{Puts, Tidy, NormalForm};
 ghost use Rattle.store.specs.Places.{front, storedIn, roomy, roomOf, numberOfRoom};
 ghost use Rattle.store.specs.Bumps.{Leaves};
@@ -41,13 +42,13 @@ use paper::Serial;
 use paper::Surface;
 
 // Where the words say how many places are used.
-const USED: usize = 96;
+pub(crate) const USED: usize = 96;
 
 // How many words a place has.
-const PLACE: usize = 6;
+pub(crate) const PLACE: usize = 6;
 
 // The number as one of 64 bits.
-fn wide(x: u32) -> usize
+pub(crate) fn wide(x: u32) -> usize
     ensures { λ r. ⌜ r ≡ x ⌝ }
 {
     x as usize
@@ -106,7 +107,7 @@ fn mark_of(x: u32) -> Mark
 }
 
 // The number of a mark.
-fn mark_word(m: Mark) -> u32
+pub(crate) fn mark_word(m: Mark) -> u32
     ensures { λ r. ⌜ r ≡ markWord m ⌝ }
 {
     match m {
@@ -117,7 +118,7 @@ fn mark_word(m: Mark) -> u32
 }
 
 // The picture at a place.
-fn picture_at(store: &[u32; Store::WORDS], i: usize) -> Picture
+pub(crate) fn picture_at(store: &[u32; Store::WORDS], i: usize) -> Picture
     requires { ⌜ i < 16 ⌝ }
     ensures { λ r. ⌜ r ≡ pictureAt (now (store .entry)) i ⌝ }
 {

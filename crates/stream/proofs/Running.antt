@@ -52,7 +52,8 @@ module _ {S : Type 0} {Starts : S → Type 0} {Turns : S → S → Type 0} (P : 
   pub at-end : (turns : List S) (s : S) → Ran Starts Turns turns s → P s
   at-end = over-turns (λ (_ : List S) (s : S). P s) begins (λ earlier b s p. goes b s)
 
--- so what holds of nothing read and nothing written where it starts, and of one turn more, holds of all that its turns read and wrote
+-- so what holds of nothing read and nothing written where it starts, and of one turn more, holds of all that its turns
+-- read and wrote
 module _ {S : Type 0} {Starts : S → Type 0} {Turns : S → S → Type 0} (f g : S → S → List ℕ) (P : List ℕ → List ℕ → S → Type 0) (begins : (s : S) → Starts s → P [] [] s)
     (goes : (R W : List ℕ) (b s : S) → P R W b → Turns b s → P (R ++ f b s) (W ++ g b s) s) where
   pub by-turns : (turns : List S) (s : S) → Ran Starts Turns turns s → P (through f turns s) (through g turns s) s

@@ -1,4 +1,5 @@
--- One file in a turn: what is read stands behind what waits, and what is taken is cut off in front, so that all that was read is still there.
+-- One file in a turn: what is read stands behind what waits, and what is taken is cut off in front, so that all that
+-- was read is still there.
 use Prim.Native.Nat.{ℕ, _-_, _≤_}
 use mathlib.Core.Path.{_≡_, refl, sym, ap, _∙_}
 use mathlib.Core.List.{List, [], _++_}

@@ -18,7 +18,8 @@ asciiFrom (suc n) i s = code (charAt s i) ∷ asciiFrom n (suc i) s
 abbrev pub ascii : String → List ℕ
 ascii s = asciiFrom (len s) 0 s
 
--- the decimal digits of a number, the most significant first and no 0 in front: at most k of them. No number of 64 bits has more than 20
+-- the decimal digits of a number, the most significant first and no 0 in front: at most k of them. No number of 64 bits
+-- has more than 20
 unfoldable pub digits : ℕ → ℕ → List ℕ
 digits zero n = []
 digits (suc k) n = cond (ltb n 10) ((48 + n) ∷ []) (digits k (n / 10) ++ ((48 + n % 10) ∷ []))
@@ -31,7 +32,8 @@ unfoldable pub integer : ℤ → List ℕ
 integer (pos n) = decimal n
 integer (negsuc n) = ascii "-" ++ decimal (n + 1)
 
--- What a writer leaves: the text at its place, all else as it was. It gives the place behind the text, at most `most` bytes on
+-- What a writer leaves: the text at its place, all else as it was. It gives the place behind the text, at most `most`
+-- bytes on
 pub record Wrote (before : List ℕ) (at : ℕ) (text : List ℕ) (most r : ℕ) (after : List ℕ) : Type 0 where
   pub place : r ≡ at + length text
   pub fits : r ≤ at + most

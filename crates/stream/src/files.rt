@@ -51,8 +51,7 @@ pub fn without(f: Feed, n: usize) -> Feed
     }
 }
 
-// Opens the file that an argument names: a descriptor, or -1 where it can't, and then it says so behind the program's
-// name.
+// Opens the file that an argument names: a descriptor, or -1 where it can't, and then it says so.
 pub fn open(i: usize, program: &[u8]) -> i32
     ensures { λ r. ⌜ Opened r ⌝ }
 {
@@ -65,20 +64,16 @@ pub fn open(i: usize, program: &[u8]) -> i32
     }
     let fd = os::open_read(&path[..n]);
     if fd < 0 {
-        io::write_all(2, program);
-        io::write_all(2, b": ");
-        os::fail(&path[..n]);
+        unreadable(&path[..n], program);
         return -1;
     }
     fd
 }
 
-// Says behind the program's name that the file which an argument names can't be read.
-pub fn unreadable(i: usize, program: &[u8]) {
-    let mut path = io::buffer();
-    let n = os::arg(i, &mut path);
+// Says that a file can't be opened or read: the program's name, the file's, and the system's words for the call that
+// failed last. So the name must be at hand: to ask for the argument would be such a call.
+pub fn unreadable(path: &[u8], program: &[u8]) {
     io::write_all(2, program);
     io::write_all(2, b": ");
-    io::write_all(2, &path[..n]);
-    io::write_all(2, b" can't be read\n");
+    os::fail(path);
 }

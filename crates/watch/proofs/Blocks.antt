@@ -1,5 +1,6 @@
--- Block after block: what is heard of one block and then of the next is what `watched` finds in both, one behind the other.
-use Prim.Native.Nat.{ℕ, _+_, _≤_}
+-- Block after block: what is heard of one block and then of the next is what `watched` finds in both, one behind the
+-- other.
+use Prim.Native.Nat.{ℕ, _+_, _≤_, _<_}
 use mathlib.Core.Path.{_≡_, refl, sym, ap, ap₂, subst, _∙_}
 use mathlib.Core.Bool.{true}
 use mathlib.Core.List.{List, [], _∷_, _++_}
@@ -124,4 +125,18 @@ watched-within st n L [] (a ∷ answers) = omega arith
 watched-within st n L (r ∷ rs) (a ∷ answers) =
     split (eqb (partOf st L r a) 0)
     (λ t. let k = watched-within (further st a) (n + 1) (hear L r (readReply st a)) rs answers in rw t (omega arith))
+    (λ t. rw t (omega arith))
+
+-- the place of an exchange that breaks a part is one of theirs
+pub watched-inside : (st : Reading) (n : ℕ) (L : Ledger) (rs answers : List (List ℕ)) → length rs ≡ length answers → (watched st n L rs answers .part ≡ 0 → ⊥)
+    → watched st n L rs answers .at < n + length answers
+unfolding watched
+watched-inside st n L [] [] e w = absurd (w refl)
+watched-inside st n L (r ∷ rs) [] e w = absurd (omega arith)
+watched-inside st n L [] (a ∷ answers) e w = absurd (omega arith)
+watched-inside st n L (r ∷ rs) (a ∷ answers) e w =
+    split (eqb (partOf st L r a) 0)
+    (λ t.
+    let h = watched-inside (further st a) (n + 1) (hear L r (readReply st a)) rs answers (omega arith) (rw t at w) in
+    rw t (omega arith))
     (λ t. rw t (omega arith))

@@ -1,4 +1,5 @@
--- What the contracts come to: the result of `hear` is determined whole, and a book in normal form has every line of its ledger.
+-- What the contracts come to: the result of `hear` is determined whole, and a book in normal form has every line of its
+-- ledger.
 use Prim.Native.Nat.{ℕ, min}
 use mathlib.Core.Path.{_≡_, refl, sym, ap, subst, subst₂, _∙_}
 use mathlib.Core.List.{List}

@@ -1,12 +1,12 @@
 -- Exchange after exchange: one more is heard as `watched` hears it.
 use Prim.Native.Nat.{ℕ, suc, _+_, _-_, _<_}
 use mathlib.Core.Path.{_≡_, refl, sym, ap, ap₂, subst, _∙_}
-use mathlib.Core.Bool.{true}
+use mathlib.Core.Bool.{true, cond}
 use mathlib.Core.List.{List, [], _∷_, _++_}
 use native.Mathlib.Omega.{arith}
-use lib.ListN.{length, take, drop, length-append}
-use lib.Seq.{take-append-le, take-all}
-use lib.Dec.{eqb}
+use lib.ListN.{length, take, drop, getD, length-append}
+use lib.Seq.{take-append-le, take-all, getD-at}
+use lib.Dec.{ltb, eqb}
 use borrow.Author.Tests.{eqb-false, ne-eqb}
 use Rattle.paper.specs.Words.{allB, first}
 use Rattle.paper.specs.declared.Reading.{Reading}
@@ -15,6 +15,9 @@ use Rattle.paper.specs.Kinds.{endKind, abandonKind}
 use Rattle.paper.specs.Replies.{Reply}
 use Rattle.paper.specs.Ledger.{Ledger, tell, hear, readReply}
 use Rattle.paper.specs.Watch.{Verdict, replyPart, partOf, watched}
+use Rattle.paper.specs.declared.Blamed.{Blamed}
+use Rattle.paper.specs.declared.Blamed.the-variants.{Nothing}
+use Rattle.paper.specs.Blame.{replyBlame, blamed}
 use Rattle.paper.proofs.Bools.{split}
 use Rattle.paper.proofs.Again.{further-more}
 use Rattle.watch.specs.declared.Tally.{Tally}
@@ -23,7 +26,7 @@ use Rattle.watch.specs.declared.Heard.{Heard}
 use Rattle.watch.specs.Book.{Holds, bookIn, HoldsBook, tallied}
 use Rattle.watch.specs.Hears.{Hears}
 use Rattle.format.specs.Cut.{sizeOf, isWhole, joined}
-use Rattle.watch.specs.Pairs.{tallyAll, IsLedger, Watches}
+use Rattle.watch.specs.Pairs.{tallyAll, IsLedger, pairedOf, Watches}
 use Rattle.watch.proofs.Determined.{also, whole-view}
 use Rattle.format.proofs.Cutting.{taken-more, whole-more}
 
@@ -60,6 +63,13 @@ begun-order L r (Reply.Done kind t) = split (eqb kind endKind) (λ e. rw e) (λ 
 begun-order L r (Reply.Started b t) = refl
 begun-order L r (Reply.Listed l0 l1) = refl
 
+pub blame-order : (p : ℕ) (L : Ledger) (r : List ℕ) (x : Reply) → replyBlame p (inOrder L) r x ≡ replyBlame p L r x
+unfolding replyBlame
+blame-order p L r (Reply.Refused kind n) = refl
+blame-order p L r (Reply.Done kind t) = refl
+blame-order p L r (Reply.Started b t) = refl
+blame-order p L r (Reply.Listed l0 l1) = refl
+
 -- a book in normal form is its ledger
 pub is-ledger : {b : Book} {st : Reading} {L : Ledger} {t : Tally} → HoldsBook b st L t → IsLedger b L
 is-ledger h = record { held = whole-view h; current = h .current; begun = h .begun }
@@ -71,6 +81,12 @@ module _ {b : Book} {L : Ledger} (h : IsLedger b L) where
   pub same-part : (st : Reading) (r a : List ℕ) → partOf st (bookIn b) r a ≡ partOf st L r a
   unfolding partOf first
   same-part st r a = let e : replyPart (bookIn b) r (readReply st a) ≡ replyPart L r (readReply st a) = ap (λ (K : Ledger). replyPart K r (readReply st a)) same-book ∙ part-order L r (readReply st a) in rw e
+
+  pub same-blame : (st : Reading) (r a : List ℕ) → blamed st (bookIn b) r a ≡ blamed st L r a
+  unfolding blamed
+  same-blame st r a =
+      ap₂ (λ (p : ℕ) (K : Ledger). cond (ltb p 3) Nothing (replyBlame p K r (readReply st a))) (same-part st r a) same-book
+      ∙ ap (cond (ltb (partOf st L r a) 3) Nothing) (blame-order (partOf st L r a) L r (readReply st a))
 
   pub next-normal : {k : Book} {st : Reading} {t : Tally} (r : List ℕ) (x : Reply) → HoldsBook k st (hear (bookIn b) r x) t → HoldsBook k st (hear L r x) t
   next-normal {k} r x g =
@@ -134,7 +150,7 @@ watched-even st n L (r ∷ rs) (a ∷ answers) z =
     rw e (ap suc (k .0), omega (arith, k .1)))
     (λ e. absurd (eqb-false (partOf st L r a) 0 e (rw e at z)))
 
-pub nothing-heard : (b : Book) (records replies : List ℕ) → Watches b records replies (record { book = b; taken = 0; answered = 0; pairs = 0; part = 0 })
+pub nothing-heard : (b : Book) (records replies : List ℕ) → Watches b records replies (pairedOf b 0 0 0 0 Nothing)
 unfolding joined watched allB tallyAll furtherAll
 nothing-heard b records replies =
     record {
@@ -153,10 +169,12 @@ nothing-heard b records replies =
       same = λ _. refl;
       normal = λ h. absurd (omega arith);
       last = λ z. absurd (z refl);
+      blamed = λ z. absurd (z refl);
+      unblamed = λ _. refl;
     }
 
 module _ {b k : Book} {records replies : List ℕ} (taken answered pairs n m : ℕ) (h : 0 < n) (e : n ≡ sizeOf (drop taken records)) (i : 0 < m) (f : m ≡ sizeOf (drop answered replies))
-    (g : Watches b records replies (record { book = k; taken = taken; answered = answered; pairs = pairs; part = 0 })) (x : Heard)
+    (g : Watches b records replies (pairedOf k taken answered pairs 0 Nothing)) (x : Heard)
     (d : Hears k (take (taken + n - taken) (drop taken records)) (take (answered + m - answered) (drop answered replies)) x) where
   rec : List ℕ
   rec = take n (drop taken records)
@@ -217,15 +235,25 @@ module _ {b k : Book} {records replies : List ℕ} (taken answered pairs n m : �
   one-longer : length (g .answers ++ (ans ∷ [])) ≡ pairs + 1
   one-longer = let e = all in let n = length-append (g .answers) (ans ∷ []) in omega arith
 
-  pub heard-wrong : (x .part ≡ 0 → ⊥) → Watches b records replies (record { book = k; taken = taken + n; answered = answered + m; pairs = pairs; part = x .part })
-  unfolding before
-  heard-wrong z =
+  -- the record and the reply that were heard last stand behind all others
+  its-record : getD (g .said ++ (rec ∷ [])) pairs [] ≡ rec
+  its-record = getD-at (g .said) rec [] [] pairs (let e = all in omega (arith, g .even))
+
+  its-reply : getD (g .answers ++ (ans ∷ [])) pairs [] ≡ ans
+  its-reply = getD-at (g .answers) ans [] [] pairs (sym all)
+
+  pub heard-wrong : (x .part ≡ 0 → ⊥) → (o : Blamed) → o ≡ blamed (k .reading) (bookIn k) (take (taken + n - taken) (drop taken records)) (take (answered + m - answered) (drop answered replies))
+      → Watches b records replies (pairedOf k (taken + n) (answered + m) pairs (x .part) o)
+  unfolding before rec ans
+  heard-wrong z o u =
       let w : partOf carried (before .ledger) rec ans ≡ 0 → ⊥ = λ y. z (its-part ∙ y) in
       let v = goes-on ∙ one-wrong carried (before .at) (before .ledger) rec ans w in
       let l = sym (ap (λ (y : Verdict). y .ledger) v) in
       let q = sym (take-append-le pairs (g .answers) (ans ∷ []) (let y = all in omega arith)) in
       let t = ap (tallyAll (b .reading) (b .tally)) q in
       let s = ap (furtherAll (b .reading)) q in
+      let i-n : taken + n - taken ≡ n = omega arith in
+      let i-m : answered + m - answered ≡ m = omega arith in
       record {
         said = g .said ++ (rec ∷ []);
         answers = g .answers ++ (ans ∷ []);
@@ -242,9 +270,11 @@ module _ {b k : Book} {records replies : List ℕ} (taken answered pairs n m : �
         same = g .same;
         normal = λ y. also s l t (g .normal y);
         last = λ _. evenly ∙ one-longer;
+        blamed = λ _. u ∙ ap₂ (blamed (k .reading) (bookIn k)) (ap (λ (w : ℕ). take w (drop taken records)) i-n ∙ sym its-record) (ap (λ (w : ℕ). take w (drop answered replies)) i-m ∙ sym its-reply);
+        unblamed = λ y. absurd (z y);
       }
 
-  pub heard-right : x .part ≡ 0 → Watches b records replies (record { book = x .book; taken = taken + n; answered = answered + m; pairs = pairs + 1; part = 0 })
+  pub heard-right : x .part ≡ 0 → Watches b records replies (pairedOf (x .book) (taken + n) (answered + m) (pairs + 1) 0 Nothing)
   unfolding before
   heard-right z =
       let w : partOf carried (before .ledger) rec ans ≡ 0 = sym its-part ∙ z in
@@ -276,4 +306,6 @@ module _ {b k : Book} {records replies : List ℕ} (taken answered pairs n m : �
         same = λ u. absurd (omega arith);
         normal = λ _. y;
         last = λ u. absurd (u refl);
+        blamed = λ u. absurd (u refl);
+        unblamed = λ _. refl;
       }

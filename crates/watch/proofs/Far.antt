@@ -1,10 +1,11 @@
--- What `hear_all` finds is a function of the bytes: heads leave one way to cut them, and each whole record goes with its whole reply as far as both go.
+-- What `hear_all` finds is a function of the bytes: heads leave one way to cut them, and each whole record goes with
+-- its whole reply as far as both go.
 use Prim.Native.Nat.{ℕ, _+_, _≤_, _<_, min}
 use mathlib.Core.Path.{_≡_, refl, sym, ap, ap₂, subst, _∙_}
 use mathlib.Core.Bool.{true, cond, _||_}
 use mathlib.Core.List.{List, [], _∷_, _++_, append-nil}
 use native.Mathlib.Omega.{arith}
-use lib.ListN.{length, take, drop, length-append, length-take, take-append-drop}
+use lib.ListN.{length, take, drop, getD, length-append, length-take, take-append-drop, List·getD-append}
 use lib.Seq.{take-at, take-append-add, take-append-le, length-take-le}
 use lib.Dec.{eqb}
 use borrow.Author.Tests.{eqb-true, eqb-false}
@@ -13,6 +14,8 @@ use Rattle.paper.specs.declared.Reading.{Reading}
 use Rattle.paper.specs.Reading.{furtherAll}
 use Rattle.paper.specs.Ledger.{Ledger}
 use Rattle.paper.specs.Watch.{Verdict, watched}
+use Rattle.paper.specs.declared.Blamed.{Blamed}
+use Rattle.paper.specs.Blame.{blamed}
 use Rattle.paper.proofs.Bools.{split}
 use Rattle.format.specs.Cut.{Parts, sizeOf, joined, isWhole, cut}
 use Rattle.format.proofs.Cutting.{front-cut, parts-none}
@@ -119,6 +122,20 @@ module _ {b : Book} {records replies : List ℕ} {p : Paired} (g : WatchesAll b 
   heard-answered =
       taken-is (p .answered) replies (heard .answers) (g .answered) (heard .whole-answers) (heard .cut-answers) ∙ ap (λ (n : ℕ). length (joined (take n (cut replies)))) (sym (heard .even) ∙ heard-many)
 
+  -- what is named is told from the book and the exchange behind those that go into it
+  heard-blamed : (p .part ≡ 0 → ⊥) → p .blamed ≡ blamed (p .book .reading) (bookIn (p .book)) (getD (cut records) (p .pairs) []) (getD (cut replies) (p .pairs) [])
+  heard-blamed w =
+      let n = heard .last w in
+      let x = cut (drop (p .taken) records) in
+      let y = cut (drop (p .answered) replies) in
+      let r =
+      sym (List·getD-append (heard .said) x [] (p .pairs) (omega arith))
+      ∙ ap (λ (l : List (List ℕ)). getD l (p .pairs) []) (sym (cut-behind records (p .taken) (heard .said) (heard .whole-said) (heard .cut-said))) in
+      let a =
+      sym (List·getD-append (heard .answers) y [] (p .pairs) (omega (arith, heard .even)))
+      ∙ ap (λ (l : List (List ℕ)). getD l (p .pairs) []) (sym (cut-behind replies (p .answered) (heard .answers) (heard .whole-answers) (heard .cut-answers))) in
+      heard .blamed w ∙ ap₂ (blamed (p .book .reading) (bookIn (p .book))) r a
+
 -- ANY TWO RESULTS THAT THE CONTRACT PERMITS ARE EQUAL
 pub one-hearing : {b : Book} {records replies : List ℕ} {p q : Paired} → WatchesAll b records replies p → WatchesAll b records replies q → p ≡ q
 one-hearing {b} {records} {replies} {p} {q} g h =
@@ -134,4 +151,9 @@ one-hearing {b} {records} {replies} {p} {q} g h =
     (λ y.
     let z = eqb-false (p .pairs) 0 y in
     one-book (subst (λ (m : ℕ). HoldsBook (p .book) (furtherAll (b .reading) (take m (cut replies))) (asFar (b .reading) (bookIn b) (cut records) (cut replies) .ledger) (tallyAll (b .reading) (b .tally) (take m (cut replies)))) n (heard-normal g (omega arith))) (heard-normal h (omega arith))) in
-    λ i. record { book = k i; taken = t i; answered = a i; pairs = n i; part = e i }
+    let f : Book → ℕ → Blamed = λ (c : Book) (m : ℕ). blamed (c .reading) (bookIn c) (getD (cut records) m []) (getD (cut replies) m []) in
+    let x : p .blamed ≡ q .blamed =
+    split (eqb (p .part) 0)
+    (λ y. let z = eqb-true (p .part) 0 y in g .watches .unblamed z ∙ sym (h .watches .unblamed (sym e ∙ z)))
+    (λ y. let z = eqb-false (p .part) 0 y in heard-blamed g z ∙ ap₂ f k n ∙ sym (heard-blamed h (λ w. z (e ∙ w)))) in
+    λ i. record { book = k i; taken = t i; answered = a i; pairs = n i; part = e i; blamed = x i }

@@ -22,6 +22,16 @@ use Rattle.watch.specs.Hears.{Hears}
 no-hears : {b k : Book} {r a : List ℕ} (q : ℕ) → (q ≡ 0 → ⊥) → partOf (b .reading) (bookIn b) r a ≡ q → k ≡ b → Hears b r a (record { part = q; book = k })
 no-hears q n e s = record { part = sym e; kept = λ z. absurd (n (sym e ∙ z)); broken = λ z. s }
 
+-- the same book in normal form
+module _ (b t : Book) (g : HoldsBook t (b .reading) (bookIn b) (b .tally)) where
+  pub same-page : pageOf t ≡ bookIn b
+  same-page =
+      let p : view (t .held) ≡ view (clamped (b .held)) = is-view (g .held) in
+      λ i. record { held = p i; current = g .current i; begun = g .begun i; ok = true }
+
+  pub tidied : Tidy t
+  tidied = record { good = is-good (g .held); few = g .few }
+
 module _ (b : Book) (r a : List ℕ) where
   pub hears-1 : wholeReply (b .reading) a ≡ false → Hears b r a (record { part = 1; book = b })
   unfolding partOf first
@@ -33,17 +43,9 @@ module _ (b : Book) (r a : List ℕ) where
     hears-2 h = no-hears 2 (omega arith) (rw (w, h)) refl
 
     module _ (h : heard r (readReply (b .reading) a) ≡ true) (t : Book) (g : HoldsBook t (b .reading) (bookIn b) (b .tally)) where
-      same-page : pageOf t ≡ bookIn b
-      same-page =
-          let p : view (t .held) ≡ view (clamped (b .held)) = is-view (g .held) in
-          λ i. record { held = p i; current = g .current i; begun = g .begun i; ok = true }
-
-      pub tidied : Tidy t
-      tidied = record { good = is-good (g .held); few = g .few }
-
       module _ (j : Heard) (f : Judged t r (readReply (t .reading) a) j) where
         judged-part : replyPart (bookIn b) r (readReply (b .reading) a) ≡ j .part
-        judged-part = sym (ap (λ (st : Reading). replyPart (bookIn b) r (readReply st a)) (g .reading)) ∙ rw same-page at (sym (f .part))
+        judged-part = sym (ap (λ (st : Reading). replyPart (bookIn b) r (readReply st a)) (g .reading)) ∙ rw (same-page b t g) at (sym (f .part))
 
         pub hears-part : (j .part ≡ 0 → ⊥) → Hears b r a (record { part = j .part; book = b })
         unfolding partOf first
@@ -53,7 +55,7 @@ module _ (b : Book) (r a : List ℕ) where
         unfolding partOf first
         hears-0 z k e =
             let p : replyPart (bookIn b) r (readReply (b .reading) a) ≡ 0 = judged-part ∙ z in
-            let m = subst (λ (st : Reading). HoldsBook (j .book) st (tell (bookIn b) r (readReply st a)) (t .tally)) (g .reading) (rw same-page at (f .book (sym (f .part) ∙ z))) in
+            let m = subst (λ (st : Reading). HoldsBook (j .book) st (tell (bookIn b) r (readReply st a)) (t .tally)) (g .reading) (rw (same-page b t g) at (f .book (sym (f .part) ∙ z))) in
             let y : j .book .tally ≡ b .tally = m .tally ∙ g .tally in
             let q : partOf (b .reading) (bookIn b) r a ≡ 0 = rw (w, h, p) in
             record {

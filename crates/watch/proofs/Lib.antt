@@ -5,6 +5,7 @@ pub mod PartLaws
 pub mod ReplyLaws
 pub mod Ways
 pub mod Hearing
+pub mod Blames
 pub mod Determined
 pub mod Sizes
 pub mod ExchangeLaws

@@ -1,8 +1,8 @@
 -- What `readReply` reads, by cases, and where its parts stand.
 use Prim.Native.Nat.{ℕ, suc, _+_, _-_, _*_, _≤_, min}
 use mathlib.Core.Path.{_≡_, refl, sym, ap, _∙_}
-use mathlib.Core.Bool.{true, false, cond}
-use mathlib.Core.List.{List, _++_, map, map-append}
+use mathlib.Core.Bool.{Bool, true, false, cond, not, _&&_}
+use mathlib.Core.List.{List, [], _∷_, _++_, map, map-append}
 use native.Mathlib.Omega.{arith}
 use lib.ListN.{drop}
 use lib.Seq.{getD-drop, drop-drop}
@@ -11,7 +11,7 @@ use borrow.Author.Tests.{ne-eqb, eqb-true, eqb-false}
 use Rattle.paper.specs.Numbers.{u8, u16, u32, i32, bit, aSerial, aSurface}
 use Rattle.paper.specs.Kinds.{beginKind, listsKind, replyOffset, replyTo, malformedReply, numberPlace, restPlace, wordWidth, shownWidth, surfacePlace, begunCounts, begunMembers, flagsPlace, serialPlace, membersPlace, listsPlace}
 use Rattle.paper.specs.Records.{kindOf}
-use Rattle.paper.specs.Words.{allB}
+use Rattle.paper.specs.Words.{keep, allB}
 use Rattle.paper.specs.Sets.{inOrder}
 use Rattle.paper.specs.Replies.{Reply}
 use Rattle.paper.specs.WholeReply.{thrownAt, membersOf, tailPlace}
@@ -24,8 +24,9 @@ use Rattle.paper.proofs.Bools.{split}
 use Rattle.format.proofs.Ends.{tail-begun, tail-other}
 use Rattle.format.proofs.Tails.{u32-drop, words-more, tail-there}
 use Rattle.watch.specs.Places.{startedIn, doneIn}
-use Rattle.watch.specs.Book.{listsIn, tallied, most}
-use Rattle.watch.specs.Judging.{calls}
+use Rattle.watch.specs.Book.{listsIn, refusedIn, tallied, most}
+use Rattle.paper.specs.Blame.{firstSerial, strangers}
+use Rattle.watch.specs.Judging.{calls, isNothing}
 use Rattle.watch.specs.declared.Tally.{Tally}
 use Rattle.watch.proofs.Bytes.{words-append, thrown-count, handed-count}
 
@@ -128,17 +129,27 @@ line-read r a = rw (u32-drop restPlace 5 a, u32-drop restPlace 0 a, getD-drop re
 -- ---- members, one after the other
 
 module _ (H : List Line) (m k : ℕ) (r : List ℕ) where
-  pub names-hit : calls H (aSerial (u32 r k)) ≡ true → names (readSerials (suc m) (drop k r)) H ≡ names (readSerials m (drop (k + 4) r)) H
-  unfolding names allB
-  names-hit e = rw (words-more m k r, e)
+  pub known-next : calls H (aSerial (u32 r k)) ≡ true → strangers (readSerials (suc m) (drop k r)) H ≡ strangers (readSerials m (drop (k + 4) r)) H
+  unfolding strangers keep
+  known-next e = rw (words-more m k r, e)
 
-  pub names-miss : calls H (aSerial (u32 r k)) ≡ false → names (readSerials (suc m) (drop k r)) H ≡ false
-  unfolding names allB
-  names-miss e = rw (words-more m k r, e)
+  pub strange-next : calls H (aSerial (u32 r k)) ≡ false → strangers (readSerials (suc m) (drop k r)) H ≡ aSerial (u32 r k) ∷ strangers (readSerials m (drop (k + 4) r)) H
+  unfolding strangers keep
+  strange-next e = rw (words-more m k r, e)
 
-pub names-end : (H : List Line) (bs : List ℕ) → names (readSerials 0 bs) H ≡ true
-unfolding names allB readWords
-names-end H bs = refl
+pub strange-end : (H : List Line) (bs : List ℕ) → strangers (readSerials 0 bs) H ≡ []
+unfolding strangers keep readWords
+strange-end H bs = refl
+
+-- where there is no stranger all are named
+pub no-stranger : (ns : List Serial) (H : List Line) → isNothing (firstSerial (strangers ns H)) ≡ names ns H
+unfolding isNothing firstSerial strangers keep names allB
+no-stranger [] H = refl
+no-stranger (n ∷ ns) H = go (calls H n) (no-stranger ns H)
+  where
+    go : (t : Bool) → isNothing (firstSerial (strangers ns H)) ≡ names ns H → isNothing (firstSerial (cond (not t) (n ∷ strangers ns H) (strangers ns H))) ≡ (t && names ns H)
+    go true h = h
+    go false h = refl
 
 -- ---- the tally
 
@@ -147,26 +158,26 @@ stay n h = omega arith
 
 module _ (st : Reading) (t : Tally) (a : List ℕ) where
   pub tally-refused : (u16 a numberPlace ≡ 0 → ⊥) → t .handed ≤ most → t .thrown ≤ most → t .lists ≤ most
-      → record { handed = t .handed; thrown = t .thrown; lists = t .lists } ≡ tallied t (readReply st a)
-  unfolding tallied tailIn listsIn
-  tally-refused n h u l = rw (read-refused st a n) (λ i. record { handed = stay (t .handed) h i; thrown = stay (t .thrown) u i; lists = stay (t .lists) l i })
+      → record { handed = t .handed; thrown = t .thrown; lists = t .lists; refused = min (t .refused + 1) most } ≡ tallied t (readReply st a)
+  unfolding tallied tailIn listsIn refusedIn
+  tally-refused n h u l = rw (read-refused st a n) (λ i. record { handed = stay (t .handed) h i; thrown = stay (t .thrown) u i; lists = stay (t .lists) l i; refused = min (t .refused + 1) most })
 
   module _ (z : u16 a numberPlace ≡ 0) where
-    pub tally-listed : kindOf a ≡ replyTo listsKind → t .handed ≤ most → t .thrown ≤ most
-        → record { handed = t .handed; thrown = t .thrown; lists = min (t .lists + 1) most } ≡ tallied t (readReply st a)
-    unfolding tallied tailIn listsIn
-    tally-listed k h u = rw (read-listed st a z k) (λ i. record { handed = stay (t .handed) h i; thrown = stay (t .thrown) u i; lists = min (t .lists + 1) most })
+    pub tally-listed : kindOf a ≡ replyTo listsKind → t .handed ≤ most → t .thrown ≤ most → t .refused ≤ most
+        → record { handed = t .handed; thrown = t .thrown; lists = min (t .lists + 1) most; refused = t .refused } ≡ tallied t (readReply st a)
+    unfolding tallied tailIn listsIn refusedIn
+    tally-listed k h u f = rw (read-listed st a z k) (λ i. record { handed = stay (t .handed) h i; thrown = stay (t .thrown) u i; lists = min (t .lists + 1) most; refused = stay (t .refused) f i })
 
-    pub tally-tail : (kindOf a ≡ replyTo listsKind → ⊥) → t .lists ≤ most
-        → record { handed = min (t .handed + u8 a (tailPlace a)) most; thrown = min (t .thrown + u8 a (thrownAt shownWidth a (tailPlace a))) most; lists = t .lists } ≡ tallied t (readReply st a)
-    unfolding tallied tailIn listsIn
-    tally-tail n l =
+    pub tally-tail : (kindOf a ≡ replyTo listsKind → ⊥) → t .lists ≤ most → t .refused ≤ most
+        → record { handed = min (t .handed + u8 a (tailPlace a)) most; thrown = min (t .thrown + u8 a (thrownAt shownWidth a (tailPlace a))) most; lists = t .lists; refused = t .refused } ≡ tallied t (readReply st a)
+    unfolding tallied tailIn listsIn refusedIn
+    tally-tail n l f =
         split (eqb (kindOf a) (replyTo beginKind))
         (λ e.
         let k : kindOf a ≡ replyTo beginKind = eqb-true (kindOf a) (replyTo beginKind) e in
         rw (tail-begun a k, read-started st a z k, tail-there a, handed-count st (membersPlace + wordWidth * membersOf a) a, thrown-count st (membersPlace + wordWidth * membersOf a) a)
-        (λ i. record { handed = min (t .handed + u8 a (membersPlace + wordWidth * membersOf a)) most; thrown = min (t .thrown + u8 a (thrownAt shownWidth a (membersPlace + wordWidth * membersOf a))) most; lists = stay (t .lists) l i }))
+        (λ i. record { handed = min (t .handed + u8 a (membersPlace + wordWidth * membersOf a)) most; thrown = min (t .thrown + u8 a (thrownAt shownWidth a (membersPlace + wordWidth * membersOf a))) most; lists = stay (t .lists) l i; refused = stay (t .refused) f i }))
         (λ e.
         let k = eqb-false (kindOf a) (replyTo beginKind) e in
         rw (tail-other a k, read-done st a z k n, handed-count st 6 a, thrown-count st 6 a)
-        (λ i. record { handed = min (t .handed + u8 a restPlace) most; thrown = min (t .thrown + u8 a (thrownAt shownWidth a 6)) most; lists = stay (t .lists) l i }))
+        (λ i. record { handed = min (t .handed + u8 a restPlace) most; thrown = min (t .thrown + u8 a (thrownAt shownWidth a 6)) most; lists = stay (t .lists) l i; refused = stay (t .refused) f i }))

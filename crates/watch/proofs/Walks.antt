@@ -1,7 +1,7 @@
--- A walk over the lines in their places, one line more at a time. Reading loops speak of what is left from a place on, building loops of what stands
--- before it.
+-- A walk over the lines in their places, one line more at a time. Reading loops speak of what is left from a place on,
+-- building loops of what stands before it.
 use mathlib.Core.Path.{_≡_, refl}
-use mathlib.Core.Bool.{Bool, true, false, cond}
+use mathlib.Core.Bool.{Bool, true, false, cond, not, _||_}
 use mathlib.Core.List.{List, [], _∷_, _++_, map, map-append}
 use Prim.Native.Nat.{ℕ, _+_, _≤_, _<_, min}
 use native.Mathlib.Omega.{arith}
@@ -12,6 +12,9 @@ use Rattle.derivation.specs.Pad.{used}
 use Rattle.paper.proofs.Places.{take-more, at-cons, at-end}
 use Rattle.derivation.proofs.Pad.{is-view}
 use Rattle.paper.specs.Words.{keep, anyB}
+use Rattle.paper.specs.Ledger.{none}
+use Rattle.paper.specs.declared.Blamed.{Blamed}
+use Rattle.paper.specs.Blame.{firstLine}
 use Rattle.paper.specs.declared.Line.{Line}
 use Rattle.watch.specs.Book.{view, noLine, Holds}
 use Rattle.watch.specs.declared.Lines.{Lines}
@@ -28,29 +31,17 @@ pub get : (s : Lines) (i : ℕ) → i < length (view s) → getD (s .items) i no
 get s i lt = used-get (s .len) (s .items) i noLine lt
 
 module _ {A : Type 0} (d : A) (m : ℕ) (a : List A) (i : ℕ) (f : A → Bool) where
-  pub any-hit : i < length (used m a) → f (getD a i d) ≡ true → anyB f (drop i (used m a)) ≡ true
-  unfolding anyB
-  any-hit lt w = rw (at-cons (used m a) i d lt, ← used-get m a i d lt, w)
-
-  pub any-miss : i < length (used m a) → f (getD a i d) ≡ false → anyB f (drop (i + 1) (used m a)) ≡ anyB f (drop i (used m a))
-  unfolding anyB
-  any-miss lt w = rw (at-cons (used m a) i d lt, ← used-get m a i d lt, w)
-
-  pub any-end : length (used m a) ≤ i → anyB f (drop i (used m a)) ≡ false
-  unfolding anyB
-  any-end le = rw (at-end (used m a) i le)
-
-  pub count-hit : i < length (used m a) → f (getD a i d) ≡ true → length (keep f (drop i (used m a))) ≡ 1 + length (keep f (drop (i + 1) (used m a)))
+  pub keep-hit : i < length (used m a) → f (getD a i d) ≡ true → keep f (drop i (used m a)) ≡ getD a i d ∷ keep f (drop (i + 1) (used m a))
   unfolding keep
-  count-hit lt w = rw (at-cons (used m a) i d lt, ← used-get m a i d lt, w) (omega arith)
+  keep-hit lt w = rw (at-cons (used m a) i d lt, ← used-get m a i d lt, w)
 
-  pub count-miss : i < length (used m a) → f (getD a i d) ≡ false → length (keep f (drop i (used m a))) ≡ length (keep f (drop (i + 1) (used m a)))
+  pub keep-miss : i < length (used m a) → f (getD a i d) ≡ false → keep f (drop i (used m a)) ≡ keep f (drop (i + 1) (used m a))
   unfolding keep
-  count-miss lt w = rw (at-cons (used m a) i d lt, ← used-get m a i d lt, w)
+  keep-miss lt w = rw (at-cons (used m a) i d lt, ← used-get m a i d lt, w)
 
-  pub count-end : length (used m a) ≤ i → length (keep f (drop i (used m a))) ≡ 0
+  pub keep-end : length (used m a) ≤ i → keep f (drop i (used m a)) ≡ []
   unfolding keep
-  count-end le = rw (at-end (used m a) i le)
+  keep-end le = rw (at-end (used m a) i le)
 
 module _ {A : Type 0} (f : A → Bool) where
   pub keep-append : (a b : List A) → keep f (a ++ b) ≡ keep f a ++ keep f b
@@ -60,6 +51,16 @@ module _ {A : Type 0} (f : A → Bool) where
     where
       go : (t : Bool) → keep f (a ++ b) ≡ keep f a ++ keep f b → cond t (p ∷ keep f (a ++ b)) (keep f (a ++ b)) ≡ cond t (p ∷ keep f a) (keep f a) ++ keep f b
       go true h = rw h
+      go false h = h
+
+  -- the first that is kept tells whether there is one
+  pub found-any : (l : List A) → not (none (take 1 (keep f l))) ≡ anyB f l
+  unfolding keep anyB none
+  found-any [] = refl
+  found-any (p ∷ l) = go (f p) (found-any l)
+    where
+      go : (t : Bool) → not (none (take 1 (keep f l))) ≡ anyB f l → not (none (take 1 (cond t (p ∷ keep f l) (keep f l)))) ≡ (t || anyB f l)
+      go true h = refl
       go false h = h
 
   pub keep-short : (l : List A) → length (keep f l) ≤ length l
@@ -88,3 +89,15 @@ map-turn f s t r i lt h g =
 pub map-same : {A : Type 0} (l : List A) → map (λ (x : A). x) l ≡ l
 map-same [] = refl
 map-same (x ∷ l) = rw (map-same l)
+
+-- all are kept
+pub keep-all : {A : Type 0} (l : List A) → keep (λ (x : A). true) l ≡ l
+unfolding keep
+keep-all [] = refl
+keep-all (x ∷ l) = rw (keep-all l)
+
+-- the first of the lines is the first of the first one
+pub first-taken : (d : Blamed) (H : List Line) → firstLine d (take 1 H) ≡ firstLine d H
+unfolding firstLine
+first-taken d [] = refl
+first-taken d (e ∷ H) = refl

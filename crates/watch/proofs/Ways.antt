@@ -1,4 +1,5 @@
--- Each way out of the judging functions: what the code found gives the part that the paper names, and the book after it.
+-- Each way out of the judging functions: what the code found gives the part that the paper names, and the book after
+-- it.
 use Prim.Native.Nat.{ℕ, _+_, _*_, _≤_, _<_}
 use mathlib.Core.Path.{_≡_, refl, sym, ap, _∙_}
 use mathlib.Core.Bool.{Bool, true, false, not, _&&_, _||_}

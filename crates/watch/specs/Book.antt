@@ -46,7 +46,7 @@ abbrev pub bookIn : Book → Ledger
 bookIn b = record { held = view (clamped (b .held)); current = currentIn (b .current); begun = b .begun; ok = true }
 
 abbrev pub noTally : Tally
-noTally = record { handed = 0; thrown = 0; lists = 0 }
+noTally = record { handed = 0; thrown = 0; lists = 0; refused = 0 }
 
 -- A book in normal form that reads on with this, is this ledger, with this tally
 pub record HoldsBook (b : Book) (st : Reading) (L : Ledger) (t : Tally) : Type 0 where
@@ -67,15 +67,28 @@ listsIn (Reply.Done kind t) = 0
 listsIn (Reply.Started b t) = 0
 listsIn (Reply.Listed l0 l1) = 1
 
+unfoldable pub refusedIn : Reply → ℕ
+refusedIn (Reply.Refused kind n) = 1
+refusedIn (Reply.Done kind t) = 0
+refusedIn (Reply.Started b t) = 0
+refusedIn (Reply.Listed l0 l1) = 0
+
 unfoldable pub tallied : Tally → Reply → Tally
 tallied t x =
     record {
       handed = min (t .handed + length (tailIn x .handed)) most;
       thrown = min (t .thrown + length (tailIn x .thrown)) most;
       lists = min (t .lists + listsIn x) most;
+      refused = min (t .refused + refusedIn x) most;
     }
 
 -- with what a reply of these bytes tells, and read on behind it
 abbrev pub goneOn : Book → List ℕ → Book
 goneOn b a =
-    record { held = b .held; current = b .current; begun = b .begun; tally = tallied (b .tally) (readReply (b .reading) a); reading = further (b .reading) a }
+    record {
+      held = b .held;
+      current = b .current;
+      begun = b .begun;
+      tally = tallied (b .tally) (readReply (b .reading) a);
+      reading = further (b .reading) a;
+    }

@@ -9,6 +9,7 @@ use Rattle.paper.specs.declared.Reading.{Reading}
 use Rattle.paper.specs.Reading.{shownWidthIn}
 use Rattle.paper.specs.Ledger.{Event, Hand, Throw, Free, readShown, readWords, uponAll}
 use Rattle.paper.specs.Watch.{tailPart}
+use Rattle.paper.specs.Blame.{tailBlame}
 use Rattle.paper.specs.declared.Shown.{Shown}
 use Rattle.paper.specs.declared.Line.{Line}
 use Rattle.watch.specs.Book.{Holds}
@@ -26,7 +27,12 @@ eventIn (said.Free x) = Free x
 
 -- "serial u32, surface u32, POC i32"
 abbrev pub shownAt : Reading → List ℕ → ℕ → Shown
-shownAt st r at = record { serial = aSerial (u32 r at); surface = aSurface (u32 r (at + wordWidth)); poc = i32 r (at + 2 * wordWidth) }
+shownAt st r at =
+    record {
+      serial = aSerial (u32 r at);
+      surface = aSurface (u32 r (at + wordWidth));
+      poc = i32 r (at + 2 * wordWidth);
+    }
 
 unfoldable pub eventAt : Reading → Part → List ℕ → ℕ → Event
 eventAt st Handed r at = Hand (shownAt st r at)
@@ -48,7 +54,8 @@ eventsOf st Released n bs = map Free (map aSurface (readWords n bs))
 unfoldable pub counted : Reading → Part → List ℕ → List Event
 counted st p bs = eventsOf st p (u8 bs 0) (drop 1 bs)
 
--- the part that the events break, or 0 and the lines after them
+-- the part that the events break and what they break it with, or 0 and the lines after them
 pub record Tells (es : List Event) (H : List Line) (t : Told) : Type 0 where
   pub part : t .part ≡ tailPart es H
   pub lines : tailPart es H ≡ 0 → Holds (t .lines) (uponAll es H)
+  pub blamed : t .blamed ≡ tailBlame es H

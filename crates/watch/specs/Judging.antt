@@ -1,19 +1,23 @@
--- A reply against a book in normal form: the part it breaks, or 0 and the book after it, with tally and reading as they were.
+-- A reply against a book in normal form: the part it breaks, or 0 and the book after it, with tally and reading as they
+-- were.
 use Prim.Native.Nat.{ℕ, _+_, _*_, _≤_}
 use mathlib.Core.Path.{_≡_}
 use mathlib.Core.List.{List, [], _∷_}
-use mathlib.Core.Bool.{Bool, true, not, _||_}
+use mathlib.Core.Bool.{Bool, true, false, not, _||_}
 use lib.ListN.{drop}
 use Rattle.paper.specs.Words.{_gives_, first, anyB}
 use Rattle.paper.specs.Numbers.{missing, sameSerial}
 use Rattle.paper.specs.Kinds.{restPlace, wordWidth, membersPlace}
 use Rattle.paper.specs.Output.{Tail}
 use Rattle.paper.specs.Replies.{Reply}
-use Rattle.paper.specs.Ledger.{Ledger, readBegun, readTail, readSerials, clearing, names, tell, unchanged, abandoned, landed}
+use Rattle.paper.specs.Ledger.{Ledger, readBegun, readTail, readSerials, clearing, names, tell, unchanged, abandoned}
+use Rattle.paper.specs.Ledger.{landed}
 use Rattle.paper.specs.Watch.{replyPart, listedPart, endPart, abandonPart, landedPart}
 use Rattle.paper.specs.declared.Reading.{Reading}
 use Rattle.paper.specs.declared.Serial.{Serial}
 use Rattle.paper.specs.declared.Line.{Line}
+use Rattle.paper.specs.declared.Blamed.{Blamed}
+use Rattle.paper.specs.declared.Blamed.the-variants.{Nothing, Picture, Surface, Both}
 use Rattle.watch.specs.Book.{view, Good, currentIn, HoldsBook}
 use Rattle.watch.specs.Walks.{named}
 use Rattle.watch.specs.declared.Book.{Book}
@@ -32,10 +36,18 @@ pageOf b = record { held = view (b .held); current = currentIn (b .current); beg
 abbrev pub calls : List Line → Serial → Bool
 calls H n = sameSerial n missing || anyB (named n) H
 
+-- nothing is named
+unfoldable pub isNothing : Blamed → Bool
+isNothing Nothing = true
+isNothing (Picture n) = false
+isNothing (Surface x) = false
+isNothing (Both n x) = false
+
 -- the last two parts of a begin whose reply has n members, of the lines that its tail leaves
 abbrev pub leftPart : Reading → List Line → List ℕ → ℕ → ℕ
 leftPart st H a n =
-    first (not (clearing (readBegun (drop restPlace a)) (readTail st (drop (membersPlace + wordWidth * n) a)) H) gives 19
+    first (not (clearing (readBegun (drop restPlace a))
+    (readTail st (drop (membersPlace + wordWidth * n) a)) H) gives 19
     ∷ not (names (readSerials n (drop membersPlace a)) H) gives 12
     ∷ [])
 

@@ -3,7 +3,7 @@ use Prim.Native.Nat.{ℕ, _+_, _≤_, _<_}
 use mathlib.Core.Path.{_≡_}
 use mathlib.Core.List.{List, [], _∷_}
 use mathlib.Core.Bool.{true, _||_}
-use lib.ListN.{length, take, drop}
+use lib.ListN.{length, take, drop, getD}
 use lib.Dec.{eqb}
 use Rattle.paper.specs.Words.{allB}
 use Rattle.format.specs.Cut.{sizeOf, isWhole, joined}
@@ -11,6 +11,9 @@ use Rattle.paper.specs.declared.Reading.{Reading}
 use Rattle.paper.specs.Reading.{further, furtherAll}
 use Rattle.paper.specs.Ledger.{Ledger, readReply}
 use Rattle.paper.specs.Watch.{watched}
+use Rattle.paper.specs.declared.Blamed.{Blamed}
+use Rattle.paper.specs.declared.Blamed.the-variants.{Nothing}
+use Rattle.paper.specs.Blame.{blamed}
 use Rattle.watch.specs.Book.{bookIn, HoldsBook, tallied}
 use Rattle.watch.specs.declared.Tally.{Tally}
 use Rattle.watch.specs.declared.Book.{Book}
@@ -28,11 +31,19 @@ pub record IsLedger (b : Book) (L : Ledger) : Type 0 where
   pub begun : bookIn b .begun ≡ L .begun
 
 -- what `hear_all` gives back
-abbrev pub pairedOf : Book → ℕ → ℕ → ℕ → ℕ → Paired
-pairedOf book taken answered pairs part = record { book = book; taken = taken; answered = answered; pairs = pairs; part = part }
+abbrev pub pairedOf : Book → ℕ → ℕ → ℕ → ℕ → Blamed → Paired
+pairedOf book taken answered pairs part x =
+    record {
+      book = book;
+      taken = taken;
+      answered = answered;
+      pairs = pairs;
+      part = part;
+      blamed = x;
+    }
 
--- The bytes taken are whole records and as many whole replies. `watched` finds that part in them, that many exchanges in front of it, and that ledger; the
--- tally is that of the replies in front of it, and the book reads on behind them
+-- The bytes taken are whole records and as many whole replies. `watched` finds that part in them, that many exchanges
+-- in front of it, and that ledger; the tally is that of the replies in front of it, and the book reads on behind them
 pub record Watches (b : Book) (records replies : List ℕ) (p : Paired) : Type 0 where
   pub said : List (List ℕ)
   pub answers : List (List ℕ)
@@ -45,6 +56,10 @@ pub record Watches (b : Book) (records replies : List ℕ) (p : Paired) : Type 0
   pub pairs : p .pairs ≡ watched (b .reading) 0 (bookIn b) said answers .at
   -- the exchange that breaks a part is the last one that is taken
   pub last : (p .part ≡ 0 → ⊥) → length said ≡ p .pairs + 1
+  -- and what it names is told from it and the book in front of it; where none breaks a part, nothing is named
+  pub blamed : (p .part ≡ 0 → ⊥)
+      → p .blamed ≡ blamed (p .book .reading) (bookIn (p .book)) (getD said (p .pairs) []) (getD answers (p .pairs) [])
+  pub unblamed : p .part ≡ 0 → p .blamed ≡ Nothing
   pub ledger : IsLedger (p .book) (watched (b .reading) 0 (bookIn b) said answers .ledger)
   pub tally : p .book .tally ≡ tallyAll (b .reading) (b .tally) (take (p .pairs) answers)
   pub reading : p .book .reading ≡ furtherAll (b .reading) (take (p .pairs) answers)
@@ -52,11 +67,14 @@ pub record Watches (b : Book) (records replies : List ℕ) (p : Paired) : Type 0
   pub same : p .pairs ≡ 0 → p .book ≡ b
   -- where some do, it is in normal form
   pub normal : 0 < p .pairs
-      → HoldsBook (p .book) (furtherAll (b .reading) (take (p .pairs) answers)) (watched (b .reading) 0 (bookIn b) said answers .ledger) (tallyAll (b .reading) (b .tally) (take (p .pairs) answers))
+      → HoldsBook (p .book) (furtherAll (b .reading) (take (p .pairs) answers))
+      (watched (b .reading) 0 (bookIn b) said answers .ledger)
+      (tallyAll (b .reading) (b .tally) (take (p .pairs) answers))
 
 -- and where no part is broken, no whole record or no whole reply is left
 pub record WatchesAll (b : Book) (records replies : List ℕ) (p : Paired) : Type 0 where
   pub watches : Watches b records replies p
   pub taken : p .taken ≤ length records
   pub answered : p .answered ≤ length replies
-  pub rest : p .part ≡ 0 → (eqb (sizeOf (drop (p .taken) records)) 0 || eqb (sizeOf (drop (p .answered) replies)) 0) ≡ true
+  pub rest : p .part ≡ 0
+      → (eqb (sizeOf (drop (p .taken) records)) 0 || eqb (sizeOf (drop (p .answered) replies)) 0) ≡ true

@@ -10,7 +10,9 @@ use Rattle.paper.specs.Ledger.{readBegun, readTail, setWords}
 
 -- what `readReply` reads of an accepted begin, and of the kinds that hold a tail alone
 abbrev pub startedIn : Reading → List ℕ → Reply
-startedIn st a = Reply.Started (readBegun (drop restPlace a)) (readTail st (drop (wordWidth * setWords (drop restPlace a)) (drop begunMembers (drop restPlace a))))
+startedIn st a =
+    Reply.Started (readBegun (drop restPlace a))
+    (readTail st (drop (wordWidth * setWords (drop restPlace a)) (drop begunMembers (drop restPlace a))))
 
 abbrev pub doneIn : Reading → List ℕ → Reply
 doneIn st a = Reply.Done (kindOf a - replyOffset) (readTail st (drop restPlace a))

@@ -1,6 +1,7 @@
 // What a tail tells, event by event, read where it lies in the reply.
 use crate::Lines;
 use crate::held::change_all;
+use crate::held::found;
 use crate::held::freed;
 use crate::held::has_any;
 use crate::line::Ask;
@@ -9,6 +10,7 @@ use format::behind;
 use format::behind_shown;
 use format::kinds;
 use format::shown_width;
+use paper::Blamed;
 use paper::Reading;
 use paper::Serial;
 use paper::Shown;
@@ -19,6 +21,7 @@ ghost use lib.ListN.{drop};
 ghost use Rattle.paper.specs.Reading.{shownWidthIn};
 ghost use Rattle.paper.specs.Ledger.{upon, events, readTail, Hand, Throw, Free};
 ghost use Rattle.paper.specs.Watch.{eventPart};
+ghost use Rattle.paper.specs.Blame.{eventBlame};
 ghost use Rattle.watch.specs.Book.{Holds, view, Good};
 ghost use Rattle.watch.specs.Events.{Tells, eventIn, eventAt, sizeOf, eventsOf, counted, shownAt};
 
@@ -36,10 +39,11 @@ pub enum Part {
     Released,
 }
 
-// The part of demand 3 that the events break, or 0 and the lines after them.
+// The part of demand 3 that the events break, with what they break it with, or 0 and the lines after them.
 pub struct Told {
     pub part: u8,
     pub lines: Lines,
+    pub blamed: Blamed,
 }
 
 // The picture handed out that stands at a place: "serial u32, surface u32, POC i32".
@@ -116,6 +120,22 @@ fn event_part(l: Lines, e: Event) -> u8
     }
 }
 
+// The picture and the surface that a wrong event names: those handed out; the picture thrown away, and its surface if a
+// line has it; the surface released, and the picture that waits there.
+fn event_blame(l: Lines, e: Event) -> Blamed
+    ensures { λ r. ⌜ r ≡ eventBlame (eventIn e) (view l) ⌝ }
+{
+    match e {
+        Event::Hand(x) => {
+            let n = x.serial;
+            let s = x.surface;
+            Blamed::Both(n, s)
+        }
+        Event::Throw(n) => found(l, Ask::Named(n), Blamed::Picture(n)),
+        Event::Free(x) => found(l, Ask::WaitsAt(x), Blamed::Surface(x)),
+    }
+}
+
 // The lines no longer wait of which one was handed out.
 fn handed(l: Lines, x: Shown) -> Lines
     ensures { λ r. ⌜ Holds r (upon (Hand x) (view l)) ⌝ }
@@ -148,13 +168,22 @@ fn run(st: Reading, l: Lines, p: Part, reply: &[u8], at: usize, n: usize) -> Tol
         let e = event_at(st, p, reply, place);
         let part = event_part(lines, e);
         if part != 0 {
-            return Told { part, lines };
+            let blamed = event_blame(lines, e);
+            return Told {
+                part,
+                lines,
+                blamed,
+            };
         }
         lines = after(lines, e);
         place += step;
         i += 1;
     }
-    Told { part: 0, lines }
+    Told {
+        part: 0,
+        lines,
+        blamed: Blamed::Nothing,
+    }
 }
 
 // A count and as many events.

@@ -7,15 +7,17 @@ use crate::line::Change;
 use crate::line::asked;
 use crate::line::changed;
 use crate::line::stays;
+use paper::Blamed;
 use paper::Line;
 use paper::Surface;
 use store::Store;
 ghost use mathlib.Core.Path.{_≡_};
 ghost use mathlib.Core.List.{[], _∷_, _++_, map};
 ghost use Prim.Native.Nat.{_≤_, _<_, min};
-ghost use lib.ListN.{length};
+ghost use lib.ListN.{length, take};
 ghost use Rattle.paper.specs.Words.{keep, anyB};
-ghost use Rattle.paper.specs.Ledger.{free};
+ghost use Rattle.paper.specs.Ledger.{free, none};
+ghost use Rattle.paper.specs.Blame.{firstLine};
 ghost use Rattle.watch.specs.Book.{Holds, HoldsBook, view, Good, currentIn, clamped, bookIn};
 ghost use Rattle.watch.specs.Walks.{asking, changing, away};
 
@@ -31,20 +33,58 @@ pub(crate) fn used_places(l: Lines) -> usize
     }
 }
 
-// Whether a line is what the walk asks for.
-pub(crate) fn has_any(l: Lines, q: Ask) -> bool
-    ensures { λ r. ⌜ r ≡ anyB (asking q) (view l) ⌝ }
+// The first line that is what the walk asks for.
+pub(crate) fn find(l: Lines, q: Ask) -> Slot
+    ensures { λ r. ⌜ currentIn r ≡ take 1 (keep (asking q) (view l)) ⌝ }
 {
     let n = used_places(l);
     let mut i: usize = 0;
     while i < n {
         let e = l.items[i];
         if asked(q, e) {
-            return true;
+            return Slot::Is(e);
         }
         i += 1;
     }
-    false
+    Slot::Idle
+}
+
+// Whether there is no line in a slot.
+pub(crate) fn is_idle(c: Slot) -> bool
+    ensures { λ r. ⌜ r ≡ none (currentIn c) ⌝ }
+{
+    match c {
+        Slot::Idle => true,
+        Slot::Is(e) => false,
+    }
+}
+
+// Whether a line is what the walk asks for.
+pub(crate) fn has_any(l: Lines, q: Ask) -> bool
+    ensures { λ r. ⌜ r ≡ anyB (asking q) (view l) ⌝ }
+{
+    !is_idle(find(l, q))
+}
+
+// The picture and the surface of the line in a slot; where there is none, `other`.
+pub(crate) fn of_line(c: Slot, other: Blamed) -> Blamed
+    ensures { λ r. ⌜ r ≡ firstLine other (currentIn c) ⌝ }
+{
+    match c {
+        Slot::Idle => other,
+        Slot::Is(e) => {
+            let n = e.serial;
+            let x = e.surface;
+            Blamed::Both(n, x)
+        }
+    }
+}
+
+// The picture and the surface of the first line that is what the walk asks for; where there is none, `other`.
+pub(crate) fn found(l: Lines, q: Ask, other: Blamed) -> Blamed
+    ensures { λ r. ⌜ r ≡ firstLine other (keep (asking q) (view l)) ⌝ }
+{
+    of_line(find(l, q), other)
 }
 
 // One line more.

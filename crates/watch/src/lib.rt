@@ -1,6 +1,7 @@
 // A tenant's check of demand 3, from records and replies alone: the ledger of document 01's demand in arrays of fixed
 // size. It judges the replies of any session, so nothing is asked of them, nor of the book: a length over the greatest
 // capacity, 16, counts as that.
+mod blamed;
 mod events;
 mod exchanges;
 mod held;
@@ -9,6 +10,7 @@ mod parts;
 mod replies;
 mod totals;
 
+pub use blamed::blame;
 pub use exchanges::Paired;
 pub use exchanges::hear_all;
 use paper::Line;
@@ -38,12 +40,13 @@ pub enum Slot {
     Is(Line),
 }
 
-// How many pictures were handed out and thrown away, and how many accepted lists were checked; each stops at the
-// greatest value.
+// How many pictures were handed out and thrown away, how many accepted lists were checked, and how many records were
+// refused; each stops at the greatest value.
 pub struct Tally {
     pub handed: u64,
     pub thrown: u64,
     pub lists: u64,
+    pub refused: u64,
 }
 
 // What somebody knows who has seen the records and the replies: the pictures stored, the current one, how many were
@@ -96,6 +99,7 @@ impl Book {
                 handed: 0,
                 thrown: 0,
                 lists: 0,
+                refused: 0,
             },
             reading,
         }

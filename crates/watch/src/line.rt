@@ -10,13 +10,14 @@ ghost use Rattle.paper.specs.Ledger.{waitsAs, waits, lies, off};
 ghost use Rattle.watch.specs.Walks.{asking, changing, waitsAt, named};
 
 // What a walk over the lines asks for: one of this serial that waits; one that waits with this serial, surface and POC;
-// one on this surface; one on this surface that waits; one of this serial.
+// one on this surface; one on this surface that waits; one of this serial; any.
 pub enum Ask {
     Waits(Serial),
     WaitsAs(Shown),
     Lies(Surface),
     WaitsAt(Surface),
     Named(Serial),
+    Any,
 }
 
 // What a walk does to every line: nothing; it no longer waits if this is its serial.
@@ -81,6 +82,7 @@ pub(crate) fn asked(q: Ask, e: Line) -> bool
         Ask::Lies(x) => lies_at(e, x),
         Ask::WaitsAt(x) => waits_at(e, x),
         Ask::Named(n) => is_named(e, n),
+        Ask::Any => true,
     }
 }
 

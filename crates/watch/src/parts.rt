@@ -5,6 +5,7 @@ use crate::Lines;
 use crate::Slot;
 use crate::events::tail;
 use crate::held::has_any;
+use crate::held::is_idle;
 use crate::held::joined;
 use crate::line::Ask;
 use crate::replies::kind_answered;
@@ -12,6 +13,7 @@ use format::behind;
 use format::behind_shown;
 use format::kinds;
 use format::members;
+use paper::Blamed;
 use paper::Line;
 use paper::Reading;
 use paper::Serial;
@@ -25,8 +27,9 @@ ghost use Rattle.paper.specs.Numbers.{u8};
 ghost use Rattle.paper.specs.Kinds.{restPlace, listsPlace};
 ghost use Rattle.paper.specs.Ledger.{names, readSerials, readTail, readBegun, readReply, lineOf, none, events};
 ghost use Rattle.paper.specs.Ledger.{clearing};
-ghost use Rattle.watch.specs.Book.{view, Good, currentIn};
-ghost use Rattle.watch.specs.Judging.{Tidy, Judged, Lists, Ends, Abandons, Lands, calls, leftPart};
+ghost use Rattle.paper.specs.Blame.{firstSerial, strangers};
+ghost use Rattle.watch.specs.Book.{view, Good};
+ghost use Rattle.watch.specs.Judging.{Tidy, Judged, Lists, Ends, Abandons, Lands, calls, leftPart, isNothing};
 ghost use Rattle.watch.specs.Places.{startedIn, doneIn};
 
 // Whether a member is missing or one of these lines.
@@ -39,34 +42,44 @@ fn is_known(l: Lines, n: Serial) -> bool
     has_any(l, Ask::Named(n))
 }
 
-// Whether n words from a place on name only missing entries and these lines.
-fn names_known(l: Lines, reply: &[u8], at: usize, n: usize) -> bool
+// The first of n words from a place on that names neither a missing entry nor one of these lines.
+pub(crate) fn stranger(l: Lines, reply: &[u8], at: usize, n: usize) -> Blamed
     requires { ⌜ (n ≤ 2000) × (at ≤ 10000) ⌝ }
-    ensures { λ r. ⌜ r ≡ names (readSerials n (drop at (now (reply .entry)))) (view l) ⌝ }
+    ensures { λ r. ⌜ r ≡ firstSerial (strangers (readSerials n (drop at (now (reply .entry)))) (view l)) ⌝ }
 {
     let mut i: usize = 0;
     while i < n {
         let w = wire::u32_at(reply, at + kinds::WORD * i);
         if !is_known(l, Serial(w)) {
-            return false;
+            return Blamed::Picture(Serial(w));
         }
         i += 1;
     }
-    true
+    Blamed::Nothing
 }
 
-// Whether there is no current picture.
-fn is_idle(c: Slot) -> bool
-    ensures { λ r. ⌜ r ≡ none (currentIn c) ⌝ }
+// Whether nothing is named.
+fn is_nothing(x: Blamed) -> bool
+    ensures { λ r. ⌜ r ≡ isNothing x ⌝ }
 {
-    match c {
-        Slot::Idle => true,
-        Slot::Is(e) => false,
+    match x {
+        Blamed::Nothing => true,
+        Blamed::Picture(n) => false,
+        Blamed::Surface(s) => false,
+        Blamed::Both(n, s) => false,
     }
 }
 
+// Whether n words from a place on name only missing entries and these lines.
+fn names_known(l: Lines, reply: &[u8], at: usize, n: usize) -> bool
+    requires { ⌜ (n ≤ 2000) × (at ≤ 10000) ⌝ }
+    ensures { λ r. ⌜ r ≡ names (readSerials n (drop at (now (reply .entry)))) (view l) ⌝ }
+{
+    is_nothing(stranger(l, reply, at, n))
+}
+
 // The line of a begun picture.
-fn line_begun(msg: &[u8], reply: &[u8]) -> Line
+pub(crate) fn line_begun(msg: &[u8], reply: &[u8]) -> Line
     ensures { λ r. ⌜ r ≡ lineOf (now (msg .entry)) (readBegun (drop restPlace (now (reply .entry)))) ⌝ }
 {
     Line {

@@ -75,6 +75,7 @@ fn tally_of(st: Reading, t: Tally, reply: &[u8]) -> Tally
             handed: t.handed,
             thrown: t.thrown,
             lists: t.lists,
+            refused: plus(t.refused, 1),
         };
     }
     if wire::u16_at(reply, kinds::KIND_PLACE) == kinds::LISTED {
@@ -82,6 +83,7 @@ fn tally_of(st: Reading, t: Tally, reply: &[u8]) -> Tally
             handed: t.handed,
             thrown: t.thrown,
             lists: plus(t.lists, 1),
+            refused: t.refused,
         };
     }
     let at = tail_place(reply);
@@ -90,6 +92,7 @@ fn tally_of(st: Reading, t: Tally, reply: &[u8]) -> Tally
         handed: plus(t.handed, wire::byte(reply, at) as usize),
         thrown: plus(t.thrown, wire::byte(reply, second) as usize),
         lists: t.lists,
+        refused: t.refused,
     }
 }
 

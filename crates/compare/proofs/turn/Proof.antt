@@ -1,4 +1,5 @@
--- What is taken and what is written lies within the buffers, so the rest of each file can be moved to the start. Where nothing is taken no pair waits.
+-- What is taken and what is written lies within the buffers, so the rest of each file can be moved to the start. Where
+-- nothing is taken no pair waits.
 use borrow.Author.Needs.{needs}
 use lib.Seq.{length-take-le}
 use Rattle.compare.proofs.Turning.{starved, lined}

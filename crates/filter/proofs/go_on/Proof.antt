@@ -1,4 +1,5 @@
--- Where nothing was answered the input is read on, else the answers are handed over and the rest of the input moves to the start.
+-- Where nothing was answered the input is read on, else the answers are handed over and the rest of the input moves to
+-- the start.
 use Prim.Native.Nat.{ℕ}
 use mathlib.Core.Path.{ap}
 use borrow.Author.Needs.{needs}

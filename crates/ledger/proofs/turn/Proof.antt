@@ -1,4 +1,5 @@
--- What is taken lies within what is held, so the rest can be moved to the start. Where nothing is taken no exchange is whole.
+-- What is taken lies within what is held, so the rest can be moved to the start. Where nothing is taken no exchange is
+-- whole.
 use borrow.Author.Needs.{needs}
 use lib.Seq.{length-take-le}
 use Rattle.ledger.proofs.Turning.{starved}

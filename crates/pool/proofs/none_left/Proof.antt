@@ -1,4 +1,5 @@
--- Where the kind is not that of a begin, or a surface is left, the answer is no; else it is whether the record is a well-formed begin.
+-- Where the kind is not that of a begin, or a surface is left, the answer is no; else it is whether the record is a
+-- well-formed begin.
 use Prim.Native.Nat.{ℕ}
 use mathlib.Core.Path.{sym, ap, _∙_}
 use mathlib.Core.Bool.{Bool, _&&_}

@@ -1,4 +1,5 @@
--- The three ways out: a begin for which no surface is left, a refusal of the session, and a reply that the pool is told.
+-- The three ways out: a begin for which no surface is left, a refusal of the session, and a reply that the pool is
+-- told.
 use mathlib.Core.Path.{_≡_, sym, _∙_}
 use mathlib.Core.Bool.{true, false, cond, _&&_}
 use native.Mathlib.Omega.{arith}

@@ -1,5 +1,5 @@
--- What is taken and what is written lies within the buffers, so the rest of the input can be moved to the start. Where nothing is taken no reply is whole,
--- so what waits is shorter than the input buffer.
+-- What is taken and what is written lies within the buffers, so the rest of the input can be moved to the start. Where
+-- nothing is taken no reply is whole, so what waits is shorter than the input buffer.
 use borrow.Author.Needs.{needs}
 use lib.Seq.{length-take-le}
 use Rattle.format.proofs.Fitting.{within}

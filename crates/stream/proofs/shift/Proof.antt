@@ -1,4 +1,5 @@
--- The bytes from `from` on are laid over the start, one by one: the place that is read is never one that was written. Where `from` is past the end, none is.
+-- The bytes from `from` on are laid over the start, one by one: the place that is read is never one that was written.
+-- Where `from` is past the end, none is.
 use Prim.Native.Nat.{_-_, _≤_}
 use mathlib.Core.Path.{_≡_, refl, _∙_}
 use native.Mathlib.Omega.{arith}

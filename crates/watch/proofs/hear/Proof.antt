@@ -27,10 +27,7 @@ tidy-requires : tie.Need-tidy-requires
 tidy-requires c κs = search needs
 
 judge-requires : tie.Need-judge-requires
-judge-requires c κs =
-    let at-is-whole = c .before .before .before .before in
-    let s = at-is-whole .before .before .before .before in
-    let a = s .args in tidied (a .b) (now (a .msg)) (now (a .reply)) (sym (at-is-whole .is-whole .ensures) ∙ flop _ (c .before .before .before .if1 .left)) (sym (c .before .before .answers .ensures (a .b .reading)) ∙ flop _ (c .before .if2 .left)) (c .tidy .result) (c .tidy .ensures)
+judge-requires c κs = tidied (c .before .before .before .before .before .before .before .before .args .b) (c .tidy .result) (c .tidy .ensures)
 
 returns-3 : tie.Need-returns-3
 returns-3 c =

@@ -1,4 +1,5 @@
--- `derivation::members::put_members`: the members walked over stand in their words, the words behind them are as they were, and behind 16 there is no member in either.
+-- `derivation::members::put_members`: the members walked over stand in their words, the words behind them are as they
+-- were, and behind 16 there is no member in either.
 use mathlib.Core.Path.{_≡_, refl, sym, ap, _∙_}
 use mathlib.Core.Bool.{Bool, true, false}
 use mathlib.Core.List.{List}

@@ -1,4 +1,5 @@
--- `derivation::ref_lists::build_ref_pic_list`: no place where the candidates cannot fill the list; else the places, and the last of them where that is asked.
+-- `derivation::ref_lists::build_ref_pic_list`: no place where the candidates cannot fill the list; else the places, and
+-- the last of them where that is asked.
 use denote.Ref.{now}
 use native.Mathlib.Omega.{arith}
 use borrow.Author.Needs.{needs}

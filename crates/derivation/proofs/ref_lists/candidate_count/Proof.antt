@@ -1,4 +1,5 @@
--- `derivation::ref_lists::candidate_count`: the candidates are the members in the run and the current picture, in either order.
+-- `derivation::ref_lists::candidate_count`: the candidates are the members in the run and the current picture, in
+-- either order.
 use denote.Ref.{now}
 use native.Mathlib.Omega.{arith}
 use Rattle.derivation.specs.Lists.{refsIn}

@@ -1,4 +1,5 @@
--- `format::records::long_entry`: each field is the number read at its place, and a place behind the end reads as any other there.
+-- `format::records::long_entry`: each field is the number read at its place, and a place behind the end reads as any
+-- other there.
 use Prim.Native.Nat.{_+_, _*_}
 use mathlib.Core.Path.{_≡_, ap, _∙_}
 use native.Mathlib.Omega.{arith}

@@ -1,4 +1,5 @@
--- `format::records::short_entry`: each field is the number read at its place, a place behind the end reads as any other there, and a delta that an i32 holds is its own.
+-- `format::records::short_entry`: each field is the number read at its place, a place behind the end reads as any other
+-- there, and a delta that an i32 holds is its own.
 use Prim.Native.Nat.{_+_, _*_}
 use mathlib.Core.Path.{_≡_, ap, _∙_}
 use native.Mathlib.Omega.{arith}

@@ -1,4 +1,5 @@
--- `reply_end`: a refusal, a lists reply and a reply with a tail end each where the definition says; number and kind tell which it is.
+-- `reply_end`: a refusal, a lists reply and a reply with a tail end each where the definition says; number and kind
+-- tell which it is.
 use denote.Ref.{now}
 use native.Mathlib.Omega.{arith}
 use mathlib.Core.Path.{_≡_, sym}

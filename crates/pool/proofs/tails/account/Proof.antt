@@ -1,4 +1,5 @@
--- A refusal and accepted lists tell nothing; any other reply tells its tail, which stands where the kind and the counts say.
+-- A refusal and accepted lists tell nothing; any other reply tells its tail, which stands where the kind and the counts
+-- say.
 use mathlib.Core.Path.{sym, subst}
 use denote.Ref.{now}
 use Rattle.paper.specs.Output.{Tail}

@@ -1,4 +1,5 @@
--- The three parts stand behind their counts; the first sets pending bits, the last clears held ones, and then the bit of x is set.
+-- The three parts stand behind their counts; the first sets pending bits, the last clears held ones, and then the bit
+-- of x is set.
 use mathlib.Core.Path.{_≡_, ap, _∙_}
 use Prim.Native.Nat.{ℕ}
 use native.Mathlib.Omega.{arith}

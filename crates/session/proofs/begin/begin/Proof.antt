@@ -1,4 +1,5 @@
--- `begin`: each way out is one law of the order of refusals, and what passes all of the tests is what `begin_inside` asks for.
+-- `begin`: each way out is one law of the order of refusals, and what passes all of the tests is what `begin_inside`
+-- asks for.
 use mathlib.Core.Bool.{false, not}
 use mathlib.Core.Path.{_≡_, sym, ap, _∙_}
 use lib.Dec.{eqb}

@@ -1,4 +1,5 @@
--- `begin_at`: the wishes that were read are the paper's. A POC of theirs outside i32 gives 6; else `begun` has what it asks for.
+-- `begin_at`: the wishes that were read are the paper's. A POC of theirs outside i32 gives 6; else `begun` has what it
+-- asks for.
 use Rattle.session.proofs.Begins.{outside, few-of, wishes-outside, wished}
 use Rattle.session.proofs.Saying.{does-refuse}
 use Rattle.paper.specs.State.{Session}

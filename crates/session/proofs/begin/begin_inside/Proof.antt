@@ -1,4 +1,5 @@
--- `begin_inside`: the flags and the POC are the paper's. A POC outside i32 gives 6; else `begin_at` has what it asks for.
+-- `begin_inside`: the flags and the POC are the paper's. A POC outside i32 gives 6; else `begin_at` has what it asks
+-- for.
 use mathlib.Core.Path.{_∙_, ap}
 use Rattle.paper.specs.State.{Session, modulus}
 use Rattle.derivation.specs.Answers.{pocAnswer}

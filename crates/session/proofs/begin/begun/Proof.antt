@@ -1,4 +1,5 @@
--- `begun`: the marks and the sets are the paper's, and so are the room that is made for the picture, the reply, the run of the sets and the words beside the store.
+-- `begun`: the marks and the sets are the paper's, and so are the room that is made for the picture, the reply, the run
+-- of the sets and the words beside the store.
 use Prim.Native.Nat.{_+_}
 use mathlib.Core.Bool.{cond}
 use mathlib.Core.Path.{ap, _∙_}

@@ -1,4 +1,5 @@
--- Limits out of range give 2 and a current picture before a full store 9; else the store drains under the old limits and the new ones are taken.
+-- Limits out of range give 2 and a current picture before a full store 9; else the store drains under the old limits
+-- and the new ones are taken.
 use mathlib.Core.Path.{_≡_, sym, ap, _∙_}
 use mathlib.Core.List.{[]}
 use mathlib.Core.Bool.{true}

@@ -1,4 +1,5 @@
--- `lists_at`: the number is the paper's; a record that is refused writes it, and one that is accepted writes the two lists.
+-- `lists_at`: the number is the paper's; a record that is refused writes it, and one that is accepted writes the two
+-- lists.
 use denote.Ref.{now}
 use Rattle.paper.specs.Records.{sliceOf}
 use Rattle.derivation.specs.Lists.{refsIn}

@@ -1,4 +1,5 @@
--- `begin_ranges`: the ranges are those of the fields and those of the entries, and fields in range have at most 16 entries behind them.
+-- `begin_ranges`: the ranges are those of the fields and those of the entries, and fields in range have at most 16
+-- entries behind them.
 use Prim.Native.Nat.{_+_, _^_, _≤_, min}
 use native.Mathlib.Omega.{arith}
 use borrow.Author.Needs.{needs}

@@ -1,4 +1,5 @@
--- What happened so far and the turns that are left are all the turns; a turn in which none is due or none waits is the last.
+-- What happened so far and the turns that are left are all the turns; a turn in which none is due or none waits is the
+-- last.
 use Prim.Native.Nat.{_-_, _<_}
 use mathlib.Core.Path.{_≡_, sym, _∙_}
 use mathlib.Core.Bool.{true}

@@ -1,4 +1,5 @@
--- A walk of the code by hand: each turn asks what an entry wants, hands the lent run on to the search, and stores what is found; after i turns the list is filled at i places. Assumes nothing.
+-- A walk of the code by hand: each turn asks what an entry wants, hands the lent run on to the search, and stores what
+-- is found; after i turns the list is filled at i places. Assumes nothing.
 use mathlib.Core.Path.{_≡_, refl, sym, ap, subst, _∙_}
 use mathlib.Core.Bool.{Bool}
 use mathlib.Core.WellFounded.{WellFounded, InvImage·wf}
@@ -240,7 +241,8 @@ module _ {M : Type 1} (𝓤 : URA M) (H : Heap 𝓤) (A : Atoms 𝓤) (W : Given
           -- it is stored: found is opened, and closed at the next list
           move ! (41 ∷ 40 ∷ []) $ fsplit3 ! $ drops ! $
           opens-array ! tt N.the-row tt 16 (so (i .0)) b o (λ lw. elem-out ! N.the-row (Is N.the-row) (shows 𝓤 H A N.the-row) nvals (LL.tells N.the-type N′.the-laws) fullShare (so (i .0)) here blankSerial b o (within less lw) (λ gw.
-          -- [found[at]; what it owns; the others; the open borrow; obs; auth; ps's token; ps; the entries' tokens; the entries; _17; …; _0; …]
+          -- [found[at]; what it owns; the others; the open borrow; obs; auth; ps's token; ps; the entries' tokens; the
+          -- entries; _17; …; _0; …]
           assigns ! (of-opd ! (load ! (from ! (stop !)) (look ! 18 refl))) (from ! (hop ! (look ! 10 refl) (stop !))) (store-raw ! 0 refl (LL.lawful N.the-type N′.the-laws 𝓤 H A W .typed (memberOf y) _ ism .0)) $
           move ! (1 ∷ []) $ drops ! $ owned ! N.the-row (Is N.the-row) (LL.makes N.the-type N′.the-plain 𝓤 H A) (memberOf y) _ ism $ move ! (1 ∷ 0 ∷ []) $
           elem-put ! N.the-row fullShare (so (i .0)) here (memberOf y) (nvals (memberOf y)) b o (within less lw) $

@@ -1,4 +1,5 @@
--- A walk of the code by hand: a loop over a lent run of pictures, with the invariant that the search from place i on finds what the whole search finds. Assumes nothing.
+-- A walk of the code by hand: a loop over a lent run of pictures, with the invariant that the search from place i on
+-- finds what the whole search finds. Assumes nothing.
 use mathlib.Core.Path.{_≡_, refl, sym, _∙_}
 use mathlib.Core.Bool.{Bool}
 use mathlib.Core.WellFounded.{WellFounded, InvImage·wf}
@@ -147,7 +148,8 @@ module _ {M : Type 1} (𝓤 : URA M) (H : Heap 𝓤) (A : Atoms 𝓤) (W : Given
         rewrite ! 4 (λ (p : ℕ). ‵ (fat fullShare tyPtr l₇ 0 (vptr b p))) (sym (place-is 20 o (i .0))) refl $
         move ! (21 ∷ []) $ fsplit ! $ move ! (1 ∷ []) $ fsplit ! $ move ! (23 ∷ []) $ move ! (2 ∷ 0 ∷ []) $
         looks-slice ! tt T.the-row (Is T.the-row) (shows 𝓤 H A T.the-row) vals (LL.tells T.the-type T′.the-laws) (LL.copy T.the-type T′.the-copy 𝓤 H A W) ys b o (λ q′. elem-out ! T.the-row (Is T.the-row) (shows 𝓤 H A T.the-row) vals (LL.tells T.the-type T′.the-laws) q′ ys (i .0) blank b o (lt less) (λ g.
-        -- [ps[i]; what it owns; the others; what shuts; the fractured borrow; res; ps's fact; _8; …; _7; …; _6; …; _5; …; _4; …; _3; …; _2; …; _1; …; _0; …]
+        -- [ps[i]; what it owns; the others; what shuts; the fractured borrow; res; ps's fact; _8; …; _7; …; _6; …; _5;
+        -- …; _4; …; _3; …; _2; …; _1; …; _0; …]
         assigns ! (of-opd ! (load ! (from ! (hop ! (look ! 11 refl) (stop !))) (look-raw ! 0 refl))) (from ! (stop !)) (init ! 9 refl (LL.lawful T.the-type T′.the-laws 𝓤 H A W .typed p (vals p) g .0)) $
         assigns ! (of-opd ! (load ! (from ! (stop !)) (look ! 9 refl))) (from ! (stop !)) (init ! 17 refl (LL.lawful T.the-type T′.the-laws 𝓤 H A W .typed p (vals p) g .0)) $
         elem-back ! T.the-row q′ ys (i .0) blank (vals p) b o (lt less) $ shuts-slice ! tt T.the-row q′ ys b o $

@@ -1,4 +1,5 @@
--- A walk of the code by hand: one element behind the reference is lent for a lifetime that is made here, its mark is set by the callee, and it comes home. Assumes nothing.
+-- A walk of the code by hand: one element behind the reference is lent for a lifetime that is made here, its mark is
+-- set by the callee, and it comes home. Assumes nothing.
 use mathlib.Core.Path.{_≡_, refl, sym, subst, ap}
 use Prim.Native.Nat.{ℕ, _<_, _*_}
 use native.Mathlib.Omega.{arith}

@@ -1,4 +1,5 @@
--- A walk of the code by hand: a loop over the elements behind a `&mut`; in each turn one is read, tested by a call, and where it passes the reference is lent again to the change. Assumes nothing.
+-- A walk of the code by hand: a loop over the elements behind a `&mut`; in each turn one is read, tested by a call, and
+-- where it passes the reference is lent again to the change. Assumes nothing.
 mod Marking
 use mathlib.Core.Path.{_≡_, refl, sym, subst, ap}
 use mathlib.Core.Bool.{Bool, Bool·beq}

@@ -1,5 +1,5 @@
--- A walk of the code by hand: the borrow is opened, the mark is written, and the borrow is closed at the picture with the new mark. The other fields' facts are
--- those of the old picture. Assumes nothing.
+-- A walk of the code by hand: the borrow is opened, the mark is written, and the borrow is closed at the picture with
+-- the new mark. The other fields' facts are those of the old picture. Assumes nothing.
 use mathlib.Core.Path.{refl}
 use Prim.Native.Nat.{ℕ}
 use mathlib.Core.List.{[], _∷_, List}

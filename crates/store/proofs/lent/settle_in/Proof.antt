@@ -1,4 +1,5 @@
--- A walk of the code by hand: the places and the members are locals, lent to the two searches and to the two changes in turn, and returned in a struct. Assumes nothing.
+-- A walk of the code by hand: the places and the members are locals, lent to the two searches and to the two changes in
+-- turn, and returned in a struct. Assumes nothing.
 mod Finding
 mod Marking
 use mathlib.Core.Path.{_≡_, refl, sym, subst}

@@ -1,4 +1,5 @@
--- What each entry found is what the paper's searches find, and the walks over neg, pos and lt ones put it into the two runs, one behind the other.
+-- What each entry found is what the paper's searches find, and the walks over neg, pos and lt ones put it into the two
+-- runs, one behind the other.
 use Prim.Native.Nat.{_+_, _≤_, min}
 use mathlib.Core.Path.{_≡_, sym, _∙_}
 use native.Mathlib.Omega.{arith}

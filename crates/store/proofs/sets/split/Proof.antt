@@ -1,4 +1,5 @@
--- What stood in the runs stands in front, and behind it what the entries walked over found, each in the run that its flag names.
+-- What stood in the runs stands in front, and behind it what the entries walked over found, each in the run that its
+-- flag names.
 use Prim.Native.Nat.{_+_, _≤_, _<_, _-_}
 use mathlib.Core.Logic.{⊎-elim}
 use mathlib.Core.Path.{_≡_, sym, _∙_}

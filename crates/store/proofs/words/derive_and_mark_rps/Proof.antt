@@ -1,4 +1,5 @@
--- The pictures lost their marks as they were read, if a picture starts over, and the counts are those within sixteen places.
+-- The pictures lost their marks as they were read, if a picture starts over, and the counts are those within sixteen
+-- places.
 use denote.Ref.{now}
 use mathlib.Core.Path.{_≡_, ap, _∙_, subst}
 use mathlib.Core.List.{List, map}

@@ -4,7 +4,8 @@ use mathlib.Core.Path.{_≡_}
 use borrow.Author.Needs.{needs}
 use Prim.Native.Nat.{_-_, _≤_}
 use lib.ListN.{length}
-use Rattle.watch.specs.Pairs.{Watches}
+use Rattle.paper.specs.declared.Blamed.the-variants.{Nothing}
+use Rattle.watch.specs.Pairs.{pairedOf, Watches}
 use Rattle.format.proofs.Fitting.{size-at, size-end}
 use Rattle.watch.proofs.Sizes.{size-none, neither}
 use Rattle.watch.proofs.ExchangeLaws.{nothing-heard, heard-wrong, heard-right}
@@ -12,7 +13,7 @@ use Rattle.watch.proofs.exchanges.hear_all.Statement.{statement}
 use Rattle.watch.proofs.exchanges.hear_all.Tie as tie
 
 abbrev Inv-loop : tie.InvT-loop
-Inv-loop records replies book₀ taken₀ answered₀ pairs₀ book taken answered pairs = (taken ≤ length records) × ((answered ≤ length replies) × ((pairs ≤ taken) × Watches book₀ records replies (record { book = book; taken = taken; answered = answered; pairs = pairs; part = 0 })))
+Inv-loop records replies book₀ taken₀ answered₀ pairs₀ book taken answered pairs = (taken ≤ length records) × ((answered ≤ length replies) × ((pairs ≤ taken) × Watches book₀ records replies (pairedOf book taken answered pairs 0 Nothing)))
 
 abbrev μ-loop : tie.MeasureT-loop
 μ-loop records replies book₀ taken₀ answered₀ pairs₀ book taken answered pairs = length records - taken
@@ -111,18 +112,43 @@ hear-requires c κs = search needs
 so-far-requires-2 : tie.Need-so-far-requires-2 Inv-loop μ-loop
 so-far-requires-2 c κs = search needs
 
+part-blame-end : tie.Need-part-blame-end Inv-loop μ-loop
+part-blame-end c =
+    let at-size = c .before .before .before .before .before .before .before in
+    let at-loop = at-size .before .before .before in
+    let s = at-loop .before .before .before in
+    let l = at-loop .loop in
+    size-end (s .args .records .now) (l .taken) (at-size .size .ensures) (l .inv .0)
+
+part-blame-end-2 : tie.Need-part-blame-end-2 Inv-loop μ-loop
+part-blame-end-2 c =
+    let at-size2 = c .before .before .before .before .before .before in
+    let at-loop = at-size2 .before .before .before .before .before in
+    let s = at-loop .before .before .before in
+    let l = at-loop .loop in
+    size-end (s .args .replies .now) (l .answered) (at-size2 .size2 .ensures) (l .inv .1 .0)
+
 returns-2 : tie.Need-returns-2 Inv-loop μ-loop
-returns-2 r =
-    let c = r .before in
-    let l = c .before .before .before .before .before .before .before .before .before .before .loop in
-    let s = c .before .before .before .before .before .before .before .before .before .before .before .before .before in
-    let k = neither (c .before .before .before .before .before .before .before .size .result) (c .before .before .before .before .before .size2 .result) (c .before .before .before .before .if1 .left) in
-    let z : c .before .hear .result .part ≡ 0 → ⊥ = omega (arith, c .if2 .taken) in
-    rw (r .so-far2 .ensures)
+returns-2 c =
+    let at-if2 = c .before .before .before .before in
+    let heard = at-if2 .before .hear in
+    let at-if1 = at-if2 .before .before .before .before in
+    let size2 = at-if1 .before .size2 in
+    let size = at-if1 .before .before .before .size in
+    let at-loop = at-if1 .before .before .before .before .before .before in
+    let s = at-loop .before .before .before in
+    let l = at-loop .loop in
+    let records = s .args .records .now in
+    let replies = s .args .replies .now in
+    let k = neither (size .result) (size2 .result) (at-if1 .if1 .left) in
+    let z : heard .result .part ≡ 0 → ⊥ = omega (arith, at-if2 .if2 .taken) in
+    rw (c .so-far2 .ensures)
     (record {
-      watches = heard-wrong (l .taken) (l .answered) (l .pairs) (c .before .before .before .before .before .before .before .size .result) (c .before .before .before .before .before .size2 .result) (k .0) (size-at (s .args .records .now) (l .taken) (c .before .before .before .before .before .before .before .size .ensures)) (k .1) (size-at (s .args .replies .now) (l .answered) (c .before .before .before .before .before .size2 .ensures)) (l .inv .1 .1 .1) (c .before .hear .result) (c .before .hear .ensures) z;
-      taken = size-end (s .args .records .now) (l .taken) (c .before .before .before .before .before .before .before .size .ensures) (l .inv .0);
-      answered = size-end (s .args .replies .now) (l .answered) (c .before .before .before .before .before .size2 .ensures) (l .inv .1 .0);
+      watches =
+          heard-wrong (l .taken) (l .answered) (l .pairs) (size .result) (size2 .result) (k .0) (size-at records (l .taken) (size .ensures)) (k .1) (size-at replies (l .answered) (size2 .ensures)) (l .inv .1 .1 .1)
+          (heard .result) (heard .ensures) z (c .before .blame .result) (c .before .blame .ensures);
+      taken = size-end records (l .taken) (size .ensures) (l .inv .0);
+      answered = size-end replies (l .answered) (size2 .ensures) (l .inv .1 .0);
       rest = λ y. absurd (z y);
     })
 
@@ -197,6 +223,13 @@ hear-all-spec =
     part-hear-start-2
     part-hear-end-2
     hear-requires
+    (λ c. search needs)
+    (λ c. search needs)
+    part-blame-end
+    (λ c. search needs)
+    (λ c. search needs)
+    part-blame-end-2
+    (λ c κs. search needs)
     so-far-requires-2
     returns-2
     add-pairs

@@ -1,79 +1,20 @@
--- The test of those from here on is the test of all, since none before asked.
-use mathlib.Core.Path.{_∙_, _≡_, refl, sym}
-use native.Mathlib.Omega.{arith}
-use Prim.Native.Nat.{_-_, _<_, _≤_}
-use lib.ListN.{drop, length}
-use Rattle.paper.specs.Words.{anyB}
-use Rattle.watch.proofs.Walks.{any-end, any-hit, any-miss}
-use Rattle.watch.specs.Book.{noLine, view}
+-- There is one where the first is found.
+use mathlib.Core.Path.{_∙_, ap}
+use mathlib.Core.Bool.{not}
+use mathlib.Core.List.{List}
+use borrow.Author.Needs.{needs}
+use Rattle.paper.specs.Ledger.{none}
+use Rattle.paper.specs.declared.Line.{Line}
+use Rattle.watch.specs.Book.{view}
 use Rattle.watch.specs.Walks.{asking}
+use Rattle.watch.proofs.Walks.{found-any}
 use Rattle.watch.proofs.held.has_any.Statement.{statement}
 use Rattle.watch.proofs.held.has_any.Tie as tie
 
-abbrev Inv-loop : tie.InvT-loop
-Inv-loop q l n i₀ i = (i ≤ n) × (anyB (asking q) (drop i (view l)) ≡ anyB (asking q) (view l))
-
-abbrev μ-loop : tie.MeasureT-loop
-μ-loop q l n i₀ i = n - i
-
-used-places-requires : tie.Need-used-places-requires Inv-loop μ-loop
-used-places-requires c κs = tt
-
-loop-holds : tie.Need-loop-holds Inv-loop μ-loop
-loop-holds c = (omega arith, refl)
-
-mul-e : tie.Need-mul-e Inv-loop μ-loop
-mul-e c = omega (arith, c .before .before .used-places .ensures .1)
-
-element-copy-out-e : tie.Need-element-copy-out-e Inv-loop μ-loop
-element-copy-out-e c = omega (arith, c .before .before .used-places .ensures .1)
-
-asked-requires : tie.Need-asked-requires Inv-loop μ-loop
-asked-requires c κs = tt
-
-returns : tie.Need-returns Inv-loop μ-loop
+returns : tie.Need-returns
 returns c =
-    let k = c .before .before .before .before in
-    let a = k .before .before .args in
-    let s = a .t1 in
-    let lt : k .loop .i < length (view s) = omega (arith, k .before .used-places .ensures .0) in
-    sym (any-hit noLine (s .len) (s .items) (k .loop .i) (asking (a .q)) lt (sym (c .before .asked .ensures) ∙ c .if1 .taken)) ∙ k .loop .inv .1
-
-add-i : tie.Need-add-i Inv-loop μ-loop
-add-i c = omega (arith, c .before .before .before .before .before .used-places .ensures .1)
-
-loop-less : tie.Need-loop-less Inv-loop μ-loop
-loop-less c = omega arith
-
-loop-again : tie.Need-loop-again Inv-loop μ-loop
-loop-again c =
-    let k = c .before .before .before .before in
-    let a = k .before .before .args in
-    let s = a .t1 in
-    let lt : k .loop .i < length (view s) = omega (arith, k .before .used-places .ensures .0) in
-    (omega arith, any-miss noLine (s .len) (s .items) (k .loop .i) (asking (a .q)) lt (sym (c .before .asked .ensures) ∙ c .if1 .left) ∙ k .loop .inv .1)
-
-returns-2 : tie.Need-returns-2 Inv-loop μ-loop
-returns-2 c =
-    let k = c .before in
-    let a = k .before .before .args in
-    let s = a .t1 in
-    let le : length (view s) ≤ k .loop .i = omega (arith, k .before .used-places .ensures .0) in
-    sym (any-end noLine (s .len) (s .items) (k .loop .i) (asking (a .q)) le) ∙ k .loop .inv .1
+    let a = c .before .before .args in
+    ap not (c .is-idle .ensures ∙ ap (λ (H : List Line). none H) (c .before .find .ensures)) ∙ found-any (asking (a .q)) (view (a .l))
 
 pub has-any-spec : {M : Type 1} → statement M
-has-any-spec =
-    tie.close
-    (tie.spec
-    Inv-loop
-    μ-loop
-    used-places-requires
-    loop-holds
-    mul-e
-    element-copy-out-e
-    asked-requires
-    returns
-    add-i
-    loop-less
-    loop-again
-    returns-2)
+has-any-spec = tie.close (tie.spec (λ c κs. search needs) (λ c κs. search needs) returns)

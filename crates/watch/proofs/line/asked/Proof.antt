@@ -48,6 +48,12 @@ returns-4 c = rw (c .before .before .q4 .given .1) (c .waits-at .ensures)
 returns-5 : tie.Need-returns-5
 returns-5 c = rw (c .before .before .q5 .given .1) (c .is-named .ensures)
 
+enum-told : tie.Need-enum-told
+enum-told c = search needs
+
+returns-6 : tie.Need-returns-6
+returns-6 c = rw (c .enum-told .given .1)
+
 pub asked-spec : {M : Type 1} → statement M
 asked-spec =
     tie.close
@@ -62,8 +68,10 @@ asked-spec =
     waits-at-requires
     enum-known-q-5
     is-named-requires
+    enum-told
     returns
     returns-2
     returns-3
     returns-4
-    returns-5)
+    returns-5
+    returns-6)

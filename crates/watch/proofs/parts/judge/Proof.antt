@@ -1,4 +1,5 @@
--- `judge`: a refusal, a begun picture, lists and a closing call are judged each by its function; number and kind tell which it is.
+-- `judge`: a refusal, a begun picture, lists and a closing call are judged each by its function; number and kind tell
+-- which it is.
 use denote.Ref.{now}
 use native.Mathlib.Omega.{arith}
 use mathlib.Core.Path.{_≡_}

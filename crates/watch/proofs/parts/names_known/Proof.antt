@@ -1,84 +1,19 @@
--- The test of the members from here on is the test of all, since all before are known.
+-- All are named where there is no stranger.
 use denote.Ref.{now}
-use native.Mathlib.Omega.{arith}
-use mathlib.Core.Path.{_≡_, _∙_, sym}
-use Rattle.watch.specs.Book.{view}
+use mathlib.Core.Path.{_∙_, ap}
 use lib.ListN.{drop}
-use Prim.Native.Nat.{suc, _+_, _-_, _*_, _≤_}
-use Rattle.watch.proofs.PartLaws.{flip, flop}
-use Rattle.watch.proofs.ReplyLaws.{names-hit, names-miss, names-end}
-use Rattle.paper.specs.Ledger.{names, readSerials}
+use borrow.Author.Needs.{needs}
+use Rattle.paper.specs.Ledger.{readSerials}
+use Rattle.watch.specs.Book.{view}
+use Rattle.watch.specs.Judging.{isNothing}
+use Rattle.watch.proofs.ReplyLaws.{no-stranger}
 use Rattle.watch.proofs.parts.names_known.Statement.{statement}
 use Rattle.watch.proofs.parts.names_known.Tie as tie
 
-abbrev Inv-loop : tie.InvT-loop
-Inv-loop l reply at n i₀ i = (i ≤ n) × (names (readSerials (n - i) (drop (at + 4 * i) reply)) (view l) ≡ names (readSerials n (drop at reply)) (view l))
-
-abbrev μ-loop : tie.MeasureT-loop
-μ-loop l reply at n i₀ i = n - i
-
-loop-holds : tie.Need-loop-holds Inv-loop μ-loop
-loop-holds c = let n = c .before .args .n in let at = c .before .args .at in let e : n - 0 ≡ n = omega arith in let f : at + 4 * 0 ≡ at = omega arith in (omega arith, rw (e, f))
-
-mul-u32-at : tie.Need-mul-u32-at Inv-loop μ-loop
-mul-u32-at c = omega (arith, c .before .before .before .pre .0)
-
-add-u32-at : tie.Need-add-u32-at Inv-loop μ-loop
-add-u32-at c = omega (arith, c .before .before .before .pre .0, c .before .before .before .pre .1)
-
-u32-at-requires : tie.Need-u32-at-requires Inv-loop μ-loop
-u32-at-requires c κs = omega (arith, c .before .before .before .pre .0, c .before .before .before .pre .1)
-
-is-known-requires : tie.Need-is-known-requires Inv-loop μ-loop
-is-known-requires c κs = tt
-
-returns : tie.Need-returns Inv-loop μ-loop
+returns : tie.Need-returns
 returns c =
-    let k = c .before .before .before .before in
-    let s = k .before .before in
-    let i = k .loop .i in
-    let e : s .args .n - i ≡ suc (s .args .n - (i + 1)) = omega arith in
-    let m = rw (c .before .before .u32-at .ensures) at (sym (c .before .is-known .ensures) ∙ flip _ (c .if1 .taken)) in
-    sym (names-miss (view (s .args .l)) (s .args .n - (i + 1)) (s .args .at + 4 * i) (now (s .args .reply)) m) ∙ rw e at (k .loop .inv .1)
-
-add-i : tie.Need-add-i Inv-loop μ-loop
-add-i c =
-    let s = c .before .before .before .before .before .before in
-    omega (arith, s .pre .0)
-
-loop-less : tie.Need-loop-less Inv-loop μ-loop
-loop-less c = omega arith
-
-loop-again : tie.Need-loop-again Inv-loop μ-loop
-loop-again c =
-    let k = c .before .before .before .before in
-    let s = k .before .before in
-    let i = k .loop .i in
-    let e : s .args .n - i ≡ suc (s .args .n - (i + 1)) = omega arith in
-    let f : s .args .at + 4 * (i + 1) ≡ s .args .at + 4 * i + 4 = omega arith in
-    let m = rw (c .before .before .u32-at .ensures) at (sym (c .before .is-known .ensures) ∙ flop _ (c .if1 .left)) in
-    (omega arith, rw f (sym (names-hit (view (s .args .l)) (s .args .n - (i + 1)) (s .args .at + 4 * i) (now (s .args .reply)) m) ∙ rw e at (k .loop .inv .1)))
-
-returns-2 : tie.Need-returns-2 Inv-loop μ-loop
-returns-2 c =
-    let k = c .before in
-    let s = c .before .before .before in
-    let e : s .args .n - k .loop .i ≡ 0 = omega arith in
-    sym (names-end (view (s .args .l)) (drop (s .args .at + 4 * k .loop .i) (now (s .args .reply)))) ∙ rw e at (k .loop .inv .1)
+    let a = c .before .before .before .args in
+    c .is-nothing .ensures ∙ ap isNothing (c .before .stranger .ensures) ∙ no-stranger (readSerials (a .n) (drop (a .at) (now (a .reply)))) (view (a .l))
 
 pub names-known-spec : {M : Type 1} → statement M
-names-known-spec =
-    tie.close
-    (tie.spec
-    Inv-loop
-    μ-loop
-    loop-holds
-    mul-u32-at
-    add-u32-at
-    u32-at-requires
-    is-known-requires
-    returns
-    add-i
-    loop-less
-    loop-again
-    returns-2)
+names-known-spec = tie.close (tie.spec (λ c κs. search needs) (λ c κs. search needs) returns)

@@ -1,6 +1,6 @@
 -- Those counted so far and those that wait from here on are all that wait.
 use mathlib.Core.Logic.{⊎-elim}
-use mathlib.Core.Path.{_≡_}
+use mathlib.Core.Path.{_≡_, ap}
 use native.Mathlib.Omega.{arith}
 use Prim.Native.Nat.{_+_, _-_, _<_, _≤_}
 use lib.ListN.{drop, length}
@@ -8,7 +8,7 @@ use mathlib.Core.Bool.{Bool}
 use Rattle.paper.specs.Words.{keep}
 use Rattle.paper.specs.Accounts.{wanting}
 use Rattle.paper.specs.declared.Line.{Line}
-use Rattle.watch.proofs.Walks.{count-end, count-hit, count-miss}
+use Rattle.watch.proofs.Walks.{keep-end, keep-hit, keep-miss}
 use Rattle.watch.specs.Book.{noLine, view}
 use Rattle.watch.proofs.totals.waiting_count.Statement.{statement}
 use Rattle.watch.proofs.totals.waiting_count.Tie as tie
@@ -49,8 +49,8 @@ loop-again c =
     let s = k .before .before .args .t1 in
     let lt : k .loop .i < length (view s) = omega (arith, k .before .used-places .ensures .0) in
     ⊎-elim
-    (λ w. let e = count-hit noLine (s .len) (s .items) (k .loop .i) waits lt (w .0 .taken) in (omega arith, (omega arith, omega arith)))
-    (λ w. let e = count-miss noLine (s .len) (s .items) (k .loop .i) waits lt (w .0 .left) in (omega arith, (omega arith, omega arith)))
+    (λ w. let e = ap length (keep-hit noLine (s .len) (s .items) (k .loop .i) waits lt (w .0 .taken)) in (omega arith, (omega arith, omega arith)))
+    (λ w. let e = ap length (keep-miss noLine (s .len) (s .items) (k .loop .i) waits lt (w .0 .left)) in (omega arith, (omega arith, omega arith)))
     (c .if1 .came)
 
 returns : tie.Need-returns Inv-loop μ-loop
@@ -59,7 +59,7 @@ returns c =
     let k = c .before in
     let s = k .before .before .args .t1 in
     let le : length (view s) ≤ k .loop .i = omega (arith, k .before .used-places .ensures .0) in
-    omega (arith, count-end noLine (s .len) (s .items) (k .loop .i) waits le)
+    omega (arith, ap length (keep-end noLine (s .len) (s .items) (k .loop .i) waits le))
 
 pub waiting-count-spec : {M : Type 1} → statement M
 waiting-count-spec =

@@ -1,4 +1,5 @@
--- The call of `find_members_in` on two local arrays: the first pictures are lent as a `&[T]` and the members as a `&mut`, each for a lifetime that is made here, and both come back. Assumes nothing.
+-- The call of `find_members_in` on two local arrays: the first pictures are lent as a `&[T]` and the members as a
+-- `&mut`, each for a lifetime that is made here, and both come back. Assumes nothing.
 use mathlib.Core.Path.{_≡_, refl, ap, sym, subst}
 use mathlib.Core.Bool.{Bool}
 use Prim.Native.Nat.{ℕ, _+_, _≤_}
@@ -123,7 +124,8 @@ module _ {M : Type 1} (𝓤 : URA M) (H : Heap 𝓤) (A : Atoms 𝓤) (W : Given
             lft-new ! tt (λ β. move ! (4 ∷ []) $ use1 W (later (some (λ (δ : GName). ‵ (MutRef (named 3) (β ∷ []) Serials .own (record { ptr = (d, 0); name = δ; now = ys }) (vptr d 0 ∷ [])) ⊛ ‵ (flent (β ∷ []) (Body (mem Serials) d 0 δ)))))
             (lend-all 𝓤 H A W N.the-row _ (LL.tells N.the-type N′.the-laws) 16 (LL.makes N.the-type N′.the-plain 𝓤 H A) (β ∷ []) ys d isy (named 3)) $ await ! tt $ pick ! (λ δ. split ! $
             at-once ! $ show ! (λ (ν : Names). sep 𝓤 (Finds .pre (to-finds ν)) (sep 𝓤 (sem 𝓤 H A (Kept T.the-row (ν .0 ∷ []) m xs b)) (A .lent (ν .1 .0 ∷ []) (Body (mem Serials) d 0 (ν .1 .1 .1))))) (α, (β, (γ, δ))) $
-            -- [the `&mut`; what is lent; its token; the slice; what is kept; its token; the two references; their tokens]
+            -- [the `&mut`; what is lent; its token; the slice; what is kept; its token; the two references; their
+            -- tokens]
             nothing ! $ move ! (8 ∷ []) $ split ! $ move ! (8 ∷ 0 ∷ 1 ∷ 5 ∷ 2 ∷ []) $ group ! 5 $ move ! (3 ∷ 1 ∷ 5 ∷ 0 ∷ []) $ group ! 4 $ use1 W (raw (Finds .pre (to-finds (α, (β, (γ, δ)))))) (asks (α, (β, (γ, δ))) few isk isf isn) $
             frame ! $ move ! (1 ∷ 0 ∷ []) $ done !))))
           where

@@ -1,4 +1,5 @@
--- The call of `mark_where_in` on a local array: the pictures are lent as a `&mut` for a lifetime that is made here, and come back marked. Assumes nothing.
+-- The call of `mark_where_in` on a local array: the pictures are lent as a `&mut` for a lifetime that is made here, and
+-- come back marked. Assumes nothing.
 use mathlib.Core.Path.{_≡_, refl, ap}
 use mathlib.Core.Bool.{Bool}
 use Prim.Native.Nat.{ℕ, _+_, _≤_}

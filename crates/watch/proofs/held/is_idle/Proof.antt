@@ -1,8 +1,8 @@
 -- `is_idle`: a slot is idle or has a line, and the definition says the same of both.
 use Rattle.paper.specs.Ledger.{none}
 use borrow.Author.Needs.{needs}
-use Rattle.watch.proofs.parts.is_idle.Statement.{statement}
-use Rattle.watch.proofs.parts.is_idle.Tie as tie
+use Rattle.watch.proofs.held.is_idle.Statement.{statement}
+use Rattle.watch.proofs.held.is_idle.Tie as tie
 
 enum-told : tie.Need-enum-told
 enum-told c = search needs
