@@ -11,7 +11,7 @@ import struct
 import sys
 
 sys.path.insert(0, str(pathlib.Path(__file__).resolve().parent.parent / "tools"))
-from lib import pool_recordings, records, recordings
+from lib import pool_recordings, records, recordings, script
 
 
 def number(n):
@@ -48,4 +48,8 @@ def main(folder):
 
 
 if __name__ == "__main__":
+    script.helps(__doc__)
+    if len(sys.argv) != 2:
+        print(__doc__, file=sys.stderr)
+        sys.exit(2)
     main(pathlib.Path(sys.argv[1]))

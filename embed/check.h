@@ -1,5 +1,5 @@
-/* What monitor.c and test_pool.c share: numbers in bytes, files of calls (calls.py has their form), and to stop where
- * anything differs. */
+/* What the monitor and the tests share: files of calls (calls.py has their form), and to stop where anything differs.
+ */
 #ifndef CHECK_H
 #define CHECK_H
 
@@ -15,6 +15,15 @@
 #define FILL 0xA5
 #define BUFFER (TRUSSHEMP_REPLY + 64)
 
+/* Whether a program is asked what it does; it then says so, and is to end with status 0. */
+static inline int help_asked(int count, char **words, const char *usage)
+{
+    if (count != 2 || (strcmp(words[1], "--help") && strcmp(words[1], "-h")))
+        return 0;
+    puts(usage);
+    return 1;
+}
+
 static inline void fail(const char *form, ...)
 {
     va_list words;
@@ -24,16 +33,6 @@ static inline void fail(const char *form, ...)
     fputc('\n', stderr);
     va_end(words);
     exit(1);
-}
-
-static inline unsigned u16_at(const uint8_t *p)
-{
-    return p[0] | (unsigned)p[1] << 8;
-}
-
-static inline uint32_t u32_at(const uint8_t *p)
-{
-    return u16_at(p) | (uint32_t)u16_at(p + 2) << 16;
 }
 
 /* Whether these bytes are as they were filled. */
@@ -84,7 +83,7 @@ static inline const uint8_t *take(struct calls *c, size_t size)
 /* The next bytes of a file, behind their count. */
 static inline const uint8_t *next_bytes(struct calls *c, size_t *size)
 {
-    *size = u32_at(take(c, 4));
+    *size = trusshemp_u32_at(take(c, 4));
     return take(c, *size);
 }
 

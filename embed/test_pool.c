@@ -2,77 +2,9 @@
  * has its form), whose answers must come byte for byte. Then a buffer that is too small, pools that can't be made, and
  * calls on any words, with bytes that are not lent around every piece that is. The status is 1 where anything differs.
  */
-#include "check.h"
+#include "pool_calls.h"
 
 /* ---- recordings */
-
-#define RETURN 1
-#define ANSWER (8 + BUFFER)
-
-/* The surface that a return names: zeros stand behind a body that is too short. */
-static uint32_t surface_in(const uint8_t *body, size_t size)
-{
-    uint8_t bytes[4] = { 0 };
-    memcpy(bytes, body, size < 4 ? size : 4);
-    return u32_at(bytes);
-}
-
-static void put_u16(uint8_t *at, size_t n)
-{
-    at[0] = (uint8_t)n;
-    at[1] = (uint8_t)(n >> 8);
-}
-
-/* An answer as a message, with a reply of that length behind it; the length of the whole. */
-static size_t put_answer(uint8_t *answer, unsigned kind, unsigned number, uint32_t surface, size_t length)
-{
-    put_u16(answer, 4 + length);
-    put_u16(answer + 2, kind);
-    put_u16(answer + 4, number);
-    put_u16(answer + 6, surface);
-    return 8 + length;
-}
-
-/* The answer to a record, with its reply. */
-static size_t answer_record(trusshemp_pool *pool, const uint8_t *record, size_t size, uint8_t *answer)
-{
-    size_t length = SIZE_MAX;
-    uint32_t surface = UINT32_MAX;
-    unsigned number = trusshemp_pool_step(pool, record, size, answer + 8, BUFFER, &length, &surface);
-    if (length > BUFFER || !is_filled(answer + 8 + length, BUFFER - length))
-        fail("the buffer behind a reply was written");
-    return put_answer(answer, 0, number, surface, length);
-}
-
-/* The answer to a call. */
-static size_t answer_call(trusshemp_pool *pool, const uint8_t *call, size_t size, uint8_t *answer)
-{
-    const uint8_t *body = call + 4;
-    if (u16_at(call + 2) != RETURN)
-        return answer_record(pool, body, size - 4, answer);
-    unsigned number = trusshemp_pool_return(pool, surface_in(body, size - 4));
-    return put_answer(answer, RETURN, number, TRUSSHEMP_NO_SURFACE, 0);
-}
-
-/* One call of a recording and its answer; a refused one has left every byte of the pool as it was. */
-static void compare_call(struct calls *c, trusshemp_pool *pool)
-{
-    uint8_t answer[ANSWER];
-    size_t said, expected;
-    const uint8_t *call = next_bytes(c, &said);
-    const uint8_t *answered = next_bytes(c, &expected);
-    trusshemp_pool before = *pool;
-    if (said < 4)
-        fail("%s: the call that ends at byte %zu is not whole", c->name, c->at);
-    memset(answer, FILL, sizeof answer);
-
-    size_t length = answer_call(pool, call, said, answer);
-
-    if (length != expected || memcmp(answer, answered, length))
-        fail("%s: the answer that ends at byte %zu differs", c->name, c->at);
-    if (u16_at(answer + 4) && memcmp(&before, pool, sizeof before))
-        fail("%s: a refused call changed the pool", c->name);
-}
 
 /* A recording; how many calls it has. */
 static size_t run_recording(const char *name)
@@ -80,10 +12,7 @@ static size_t run_recording(const char *name)
     size_t calls = 0;
     struct calls c = opened(name);
     trusshemp_pool pool;
-    memset(&pool, FILL, sizeof pool);
-    if (trusshemp_pool_make(&pool, u32_at(take(&c, 4))) != 0)
-        fail("%s: no pool was made", name);
-    for (; !at_end(&c); calls++)
+    for (make_pool(&c, &pool); !at_end(&c); calls++)
         compare_call(&c, &pool);
     free(c.bytes);
     return calls;
@@ -146,7 +75,7 @@ static void small_buffer(size_t size)
     randomize_pool(&pool);
     before = pool;
     memset(reply, FILL, sizeof reply);
-    if (trusshemp_pool_step(&pool, begin, sizeof begin, reply, size, &length, &surface) != 14)
+    if (trusshemp_pool_step(&pool, begin, sizeof begin, reply, size, &length, &surface) != TRUSSHEMP_NO_ROOM)
         fail("a buffer of %zu bytes did not get 14", size);
     if (length != 0 || surface != TRUSSHEMP_NO_SURFACE || !is_filled(reply, sizeof reply))
         fail("a buffer of %zu bytes got a reply", size);
@@ -287,10 +216,10 @@ static void return_any(void)
 
 static void check_step(unsigned number, size_t size, size_t room)
 {
-    int begun = number == 0 && size >= 4 && u16_at(lent.record + 2) == 2;
+    int begun = number == 0 && size >= 4 && trusshemp_u16_at(lent.record + 2) == TRUSSHEMP_BEGIN;
     if (room < TRUSSHEMP_REPLY ? number != 14 || lent.length != 0 : lent.length < 6 || lent.length > TRUSSHEMP_REPLY)
         fail("number %u and length %zu in %zu bytes", number, lent.length, room);
-    if (lent.length && u16_at(lent.reply + 4) != number)
+    if (lent.length && trusshemp_u16_at(lent.reply + 4) != number)
         fail("the reply to %u has another number", number);
     if (number > 13 && number != TRUSSHEMP_NONE_FREE && room >= TRUSSHEMP_REPLY)
         fail("number %u", number);
@@ -350,6 +279,8 @@ static void any_words(void)
 
 int main(int count, char **names)
 {
+    if (help_asked(count, names, "test_pool POOL..: what a pool promises, on recordings (embed/calls.py writes them)"))
+        return 0;
     if (count < 2)
         fail("no recording: test_pool POOL..");
     if (trusshemp_pool_size() != sizeof(trusshemp_pool) || trusshemp_pool_size() != TRUSSHEMP_POOL_SIZE)

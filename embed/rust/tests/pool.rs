@@ -1,9 +1,9 @@
 //! The recordings of recordings/pool and the promises of the header for a pool, through the safe crate.
+#![cfg(target_arch = "x86_64")] // the archive is for x86-64
 mod common;
 
-use common::{calls, files, Random, FILL};
-use trusshemp::{pool_size, Given, Pool, BAD_COUNT, MOST_SURFACES, NONE_FREE, NONE_PENDING, NO_SURFACE};
-use trusshemp::{POOL, REPLY, WORDS};
+use common::{answer, calls, files, number, Random, FILL};
+use trusshemp::{pool_size, Pool, Refusal, Surface, MOST_SURFACES, POOL, REPLY, WORDS};
 
 const CONFIGURE: [u8; 10] = [6, 0, 1, 0, 4, 4, 4, 0, 0, 0];
 const BEGIN: [u8; 16] = [12, 0, 2, 0, 19, 0, 1, 0, 0, 7, 0, 0, 0, 0, 0, 0];
@@ -12,43 +12,15 @@ const DRAIN: [u8; 4] = [0, 0, 5, 0];
 
 // ---- recordings
 
-/// An answer as a message: its length, its kind, number, surface and reply.
-fn message(kind: u16, number: u16, surface: u32, reply: &[u8]) -> Vec<u8> {
-    let head = [4 + reply.len() as u16, kind, number, surface as u16];
-    [head.map(u16::to_le_bytes).as_flattened(), reply].concat()
-}
-
-/// The surface that a return names: zeros stand behind a body that is too short.
-fn surface_in(body: &[u8]) -> u32 {
-    (0..4).map(|i| u32::from(*body.get(i).unwrap_or(&0)) << (8 * i)).sum()
-}
-
-/// The answer to a call; the buffer behind a reply is left as it was.
-fn answer(pool: &mut Pool, call: &[u8]) -> Vec<u8> {
-    let (head, body) = call.split_at(4);
-    if head[2..] == [1, 0] {
-        return message(1, pool.give_back(surface_in(body)), NO_SURFACE, &[]);
-    }
-    let mut reply = [FILL; REPLY + 64];
-    let given = pool.step(body, &mut reply);
-    assert!(reply[given.len..].iter().all(|&b| b == FILL));
-    message(0, given.number, given.surface, &reply[..given.len])
-}
-
 #[test]
 fn every_recording() {
-    let files = files("pool");
-    assert!(files.len() > 10, "{} files of a pool's calls", files.len());
-    for (path, data) in files {
+    for (path, data) in files("pool") {
         let (surfaces, rest) = data.split_at(4);
         let mut pool = Pool::make(u32::from_le_bytes(surfaces.try_into().unwrap())).unwrap();
         for (place, (said, answered)) in calls(rest).into_iter().enumerate() {
             let before = pool.clone();
             assert_eq!(answer(&mut pool, said), answered, "{}, call {}", path.display(), place + 1);
             assert!(answered[4..6] == [0, 0] || pool == before);
-            // kept as words and read again, it is the same pool
-            let (own, session) = pool.words();
-            pool = Pool::from_words(own, session);
         }
     }
 }
@@ -65,38 +37,45 @@ fn the_size_is_the_archives() {
 #[test]
 fn a_surface_is_given_again() {
     let mut pool = Pool::make(1).unwrap();
+    // the number and the surface that a record gets, and how long its reply is
+    let mut step = |record: &[u8]| {
+        let mut reply = [FILL; REPLY];
+        let given = pool.step(record, &mut reply);
+        (number(&given.reply), given.surface, given.bytes.len())
+    };
+    assert_eq!(step(&CONFIGURE), (0, None, 9));
+    assert_eq!(step(&BEGIN), (0, Some(Surface(0)), 23));
+    assert_eq!(step(&FINISH), (0, None, 21));
+    assert_eq!(step(&BEGIN), (18, None, 6));
+    assert_eq!(step(&DRAIN), (0, None, 13));
+    assert_eq!(step(&BEGIN), (18, None, 6));
+    assert_eq!(pool.give_back(Surface(0)), Ok(()));
+    assert_eq!(pool.give_back(Surface(0)), Err(Refusal::NonePending));
     let mut reply = [FILL; REPLY];
-    assert_eq!(pool.step(&CONFIGURE, &mut reply).number, 0);
-    assert_eq!(pool.step(&BEGIN, &mut reply), Given { number: 0, len: 23, surface: 0 });
-    assert_eq!(pool.step(&FINISH, &mut reply), Given { number: 0, len: 21, surface: NO_SURFACE });
-    assert_eq!(pool.step(&BEGIN, &mut reply), Given { number: NONE_FREE, len: 6, surface: NO_SURFACE });
-    assert_eq!(reply[..6], [2, 0, 2, 1, 18, 0]);
-    assert_eq!(pool.step(&DRAIN, &mut reply).number, 0);
-    assert_eq!(pool.step(&BEGIN, &mut reply).number, NONE_FREE);
-    assert_eq!(pool.give_back(0), 0);
-    assert_eq!(pool.give_back(0), NONE_PENDING);
-    assert_eq!(pool.step(&BEGIN, &mut reply), Given { number: 0, len: 23, surface: 0 });
+    assert_eq!(pool.step(&BEGIN, &mut reply).surface, Some(Surface(0)));
+    assert_eq!(pool.step(&BEGIN, &mut reply).bytes, [2, 0, 2, 1, 18, 0]);
 }
 
 #[test]
 fn a_small_buffer() {
     let mut pool = Pool::make(4).unwrap();
-    assert_eq!(pool.step(&CONFIGURE, &mut [0; REPLY]).number, 0);
+    assert!(pool.step(&CONFIGURE, &mut [0; REPLY]).reply.is_ok());
     let before = pool.clone();
     let mut reply = [FILL; REPLY - 1];
-    assert_eq!(pool.step(&BEGIN, &mut reply), Given { number: 14, len: 0, surface: NO_SURFACE });
+    let given = pool.step_in(&BEGIN, &mut reply);
+    assert_eq!((given.reply, given.surface, given.bytes), (Err(Refusal::NoRoom), None, &[][..]));
     assert!(reply.iter().all(|&b| b == FILL) && pool == before);
-    assert_eq!(pool.step(&[], &mut []), Given { number: 14, len: 0, surface: NO_SURFACE });
+    assert_eq!(pool.step_in(&[], &mut []).reply, Err(Refusal::NoRoom));
 }
 
 #[test]
 fn pools_that_are_not_made() {
     let mut random = Random::new();
     for surfaces in [0, MOST_SURFACES + 1, u32::MAX] {
-        assert_eq!(Pool::make(surfaces), Err(BAD_COUNT));
+        assert_eq!(Pool::make(surfaces), Err(Refusal::BadCount));
         let mut pool = any_pool(&mut random);
         let before = pool.clone();
-        assert_eq!(pool.make_again(surfaces), Err(BAD_COUNT));
+        assert_eq!(pool.make_again(surfaces), Err(Refusal::BadCount));
         assert_eq!(pool, before);
     }
     for surfaces in 1..=MOST_SURFACES {
@@ -158,21 +137,22 @@ impl Lent {
         self.reply = [FILL; REPLY];
         let before = self.pool.clone();
         let given = self.pool.step(record, &mut self.reply);
-        let is_begun = given.number == 0 && record[2..4] == [2, 0];
-        assert!(given.number < 14 || given.number == NONE_FREE, "number {}", given.number);
-        assert!((6..=REPLY).contains(&given.len));
-        assert_eq!(given.number, u16::from_le_bytes([self.reply[4], self.reply[5]]));
-        assert_eq!(given.surface < MOST_SURFACES, is_begun);
-        assert!(is_begun || given.surface == NO_SURFACE);
-        assert!(self.reply[given.len..].iter().all(|&b| b == FILL));
-        assert!(given.number == 0 || self.pool == before);
-        given.number
+        let (number, len, surface) = (number(&given.reply), given.bytes.len(), given.surface);
+        let is_begun = given.reply.is_ok() && record[2..4] == [2, 0];
+        assert!(number < 14 || number == 18, "number {number}");
+        assert!((6..=REPLY).contains(&len) && given.reply != Err(Refusal::Unknown(0)));
+        assert_eq!(number, u16::from_le_bytes([self.reply[4], self.reply[5]]));
+        assert_eq!(surface.is_some(), is_begun);
+        assert!(surface.iter().all(|surface| surface.0 < MOST_SURFACES));
+        assert!(self.reply[len..].iter().all(|&b| b == FILL));
+        assert!(number == 0 || self.pool == before);
+        number
     }
 
-    fn give_back(&mut self, surface: u32) -> u16 {
+    fn give_back(&mut self, surface: Surface) -> u16 {
         let before = self.pool.clone();
-        let number = self.pool.give_back(surface);
-        assert!(number == 0 || (number == NONE_PENDING && self.pool == before));
+        let number = number(&self.pool.give_back(surface));
+        assert!(number == 0 || (number == 19 && self.pool == before));
         number
     }
 }
@@ -190,14 +170,14 @@ fn any_words_are_a_pool() {
             lent.pool = any_pool(&mut random);
         }
         let number = match random.below(64) {
-            0 => lent.pool.make_again(random.below(66)).err().unwrap_or(0),
-            1..16 => lent.give_back(random.below(66)),
+            0 => number(&lent.pool.make_again(random.below(66))),
+            1..16 => lent.give_back(Surface(random.below(66))),
             _ => lent.step(&any_record(&mut random)),
         };
         assert!(lent.guards_are_whole());
         numbers[usize::from(number)] += 1;
     }
-    for number in [0, NONE_FREE, NONE_PENDING, BAD_COUNT] {
+    for number in [0, 18, 19, 20u16] {
         assert!(numbers[usize::from(number)] > 0, "no call got {number}");
     }
 }
