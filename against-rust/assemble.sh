@@ -3,6 +3,7 @@
 # and the harness. FOLDER (or $CROS_CODECS) holds src/**.rs.txt; without it the copy in against-rust/cros-codecs is
 # taken. Their checksums must be those of SHA256SUMS.
 set -eu
+[ "${1:-}" != --help ] || { sed -n '/^#!/d; /^#/!q; s/^# \{0,1\}//p' "$0"; exit 0; }
 here=$(cd "$(dirname "$0")" && pwd -P)
 crate=$1
 from=${2:-${CROS_CODECS:-$here/cros-codecs}}

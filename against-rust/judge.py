@@ -15,6 +15,7 @@ import pathlib
 import shlex
 import subprocess
 import sys
+import time
 
 sys.path.insert(0, str(pathlib.Path(__file__).resolve().parent.parent / "tools"))
 import domain
@@ -186,13 +187,15 @@ def main():
     timeout = "seconds for a batch in the Rust; a loop that never ends is a difference"
     parser.add_argument("--timeout", type=float, default=600, help=timeout)
     arguments = parser.parse_args()
-    sums = Sums()
+    sums, started = Sums(), time.time()
     for profile, recordings, count in PLAN:
         if arguments.profile not in (None, profile):
             continue
         seeds = range(arguments.seed, arguments.seed + max(1, int(recordings * arguments.scale)))
         for start in range(0, len(seeds), BATCH):
             judge_batch([Told(profile, seed, count) for seed in seeds[start:start + BATCH]], profile, arguments, sums)
+            done = min(start + BATCH, len(seeds))
+            print(f"{profile}: {done} of {len(seeds)} recordings, {time.time() - started:.0f} s", file=sys.stderr)
     sums.report()
     return 1 if sums.found or not sums.sums else 0
 

@@ -76,7 +76,7 @@ def found(judge):
     for profile in ("long-term", "leading", "random-access", "small", "chaos"):
         words = ["--scale", "0.06", "--timeout", "20", "--profile", profile]
         command = [sys.executable, str(HERE / "judge.py"), str(judge), *words]
-        done = subprocess.run(command, stdout=subprocess.PIPE, text=True)
+        done = subprocess.run(command, stdout=subprocess.PIPE, stderr=subprocess.DEVNULL, text=True)
         if done.returncode == 1 and "DIFFERENCE" in done.stdout:
             return done.stdout.partition("\n")[0]
     return None

@@ -5,6 +5,7 @@
 # $PROGRAM is the command that answers records; without it, the proved `replay` of this repository. $SCALE (1)
 # multiplies the number of recordings.
 set -eu
+[ "${1:-}" != --help ] || { sed -n '/^#!/d; /^#/!q; s/^# \{0,1\}//p' "$0"; exit 0; }
 here=$(cd "$(dirname "$0")" && pwd -P)
 root=$(dirname "$here")
 judge=$("$here/build.sh" "$@")

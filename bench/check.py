@@ -8,7 +8,7 @@ import sys
 import tempfile
 
 sys.path.insert(0, str(pathlib.Path(__file__).resolve().parent.parent / "tools"))
-from lib import generate, model, recordings
+from lib import generate, model, recordings, script
 
 PROFILES = [
     "random-access", "low-delay", "long-term", "leading", "layers", "small", "encoders",
@@ -42,4 +42,5 @@ def main(command, answers=None):
 
 
 if __name__ == "__main__":
+    script.helps(__doc__)
     main(sys.argv[1:])

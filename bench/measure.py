@@ -20,7 +20,7 @@ OUT = ROOT / "target" / "bench"
 sys.path[:0] = [str(HERE), str(ROOT / "tools")]
 import check
 import streams
-from lib import model, pool, records
+from lib import model, pool, records, script
 
 KINDS = {1: "configure", 2: "begin", 3: "lists", 4: "finish", 5: "drain"}
 ROWS = ["mean", "begin", "lists", "finish", "drain"]
@@ -357,9 +357,10 @@ def main(arguments):
     for program in ANSWERING:
         check.main([qemu, str(OUT / PROGRAMS[program][0])])
     check.main([qemu, str(OUT / POOLED)], lambda data: through_pool(SURFACES[0], data)[0])
-    figures = {
-        "streams": of_streams(qemu), "pool": of_pool(qemu), "depths": of_depths(qemu), "lengths": of_lengths(qemu),
-    }
+    figures = {}
+    for name, count in (("streams", of_streams), ("pool", of_pool), ("depths", of_depths), ("lengths", of_lengths)):
+        print(f"measure.py: counts {name}", file=sys.stderr)
+        figures[name] = count(qemu)
     earlier = HERE / "before.json"
     before = json.loads(earlier.read_text()) if earlier.exists() else None
     text, of_the_pool = tables(figures, before), pool_tables(figures)
@@ -373,4 +374,5 @@ def main(arguments):
 
 
 if __name__ == "__main__":
+    script.helps(__doc__)
     sys.exit(main(sys.argv[1:]))

@@ -8,6 +8,7 @@
 #   QEMU_X86    the emulator with plugins (qemu-x86_64)
 #   SLOT        a word to put before what takes a while, as `nice`
 set -eu
+[ "${1:-}" != --help ] || { sed -n '/^#!/d; /^#/!q; s/^# \{0,1\}//p' "$0"; exit 0; }
 here=$(cd "$(dirname "$0")" && pwd -P)
 root=$(dirname "$here")
 out=$root/target/bench
@@ -29,9 +30,11 @@ need "$qemu" "qemu-user with plugins counts the instructions; QEMU_X86 names it"
 need "$cxx" "a C++ compiler for x86-64; CXX_X86 names it"
 . "$root/tools/kit.sh"
 
-# logged NAME FOLDER COMMAND..: the command in a folder; what it says goes to a log, whose end is shown where it fails
+# logged NAME FOLDER COMMAND..: the command in a folder; what it says goes to a log, whose end is shown where it fails.
+# Standard error says what is done, and the log.
 logged() {
   log=$out/$1.log
+  echo "run.sh: $1, the log is $log" >&2
   folder=$2
   shift 2
   (cd "$folder" && ${SLOT:-} "$@") >"$log" 2>&1 || { tail -n 20 "$log" >&2; exit 1; }

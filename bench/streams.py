@@ -14,7 +14,7 @@ import sys
 from itertools import islice
 
 sys.path.insert(0, str(pathlib.Path(__file__).resolve().parent.parent / "tools"))
-from lib import model
+from lib import model, script
 from lib.generate import B, DRAIN, FINISH, I, IDR_N_LP, P, TRAIL, begin_bytes, configure_bytes, lists_bytes
 
 PERIOD = 64
@@ -107,4 +107,6 @@ def main(arguments):
 
 
 if __name__ == "__main__":
+    script.helps(__doc__)
+    script.filters()
     sys.exit(main(sys.argv[1:]))

@@ -12,7 +12,7 @@ behind a record must be the model's.
 import re
 import sys
 
-from lib import model, records, recordings
+from lib import model, recordings, records, script
 
 DOCUMENT = recordings.ROOT / "docs" / "DIFFERENCES.md"
 FIRST = "configure k=4 capacity=4 buffering=4 reorder=1 latency=0"
@@ -83,4 +83,5 @@ def main(arguments):
 
 
 if __name__ == "__main__":
+    script.helps(__doc__)
     sys.exit(main(sys.argv[1:]))

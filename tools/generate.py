@@ -6,7 +6,7 @@
 """
 import sys
 
-from lib import generate
+from lib import generate, script
 
 
 def main(arguments):
@@ -20,4 +20,6 @@ def main(arguments):
 
 
 if __name__ == "__main__":
+    script.helps(__doc__)
+    script.filters()
     sys.exit(main(sys.argv[1:]))

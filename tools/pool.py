@@ -7,7 +7,7 @@ number from 1 to 64 (refusal 20), or an end can't be read or written, which stan
 import os
 import sys
 
-from lib import calls, pool
+from lib import calls, pool, script
 
 
 def say(words):
@@ -65,4 +65,6 @@ def main(words):
 
 
 if __name__ == "__main__":
+    script.helps(__doc__)
+    script.filters()
     sys.exit(main(sys.argv[1:]))

@@ -13,31 +13,11 @@ import subprocess
 import sys
 
 sys.path.insert(0, str(pathlib.Path(__file__).resolve().parent))
-from lib import exchanges, status
+from lib import exchanges, script, status
+from lib.source import Source, Unread
 
 # as much as the smallest pipe takes
 ROOM = 4096
-
-
-class Unread(Exception):
-    """The name of a file and why it can't be read."""
-
-
-class Source:
-    """A file that is read from front to back."""
-
-    def __init__(self, name):
-        self.name = name
-        try:
-            self.file = open(name, "rb", buffering=65536)
-        except OSError as bad:
-            raise Unread(f"{name}: {bad.strerror}") from None
-
-    def read(self, size):
-        try:
-            return self.file.read(size)
-        except OSError as bad:
-            raise Unread(f"{self.name}: {bad.strerror}") from None
 
 
 class Pipes:
@@ -135,6 +115,7 @@ def main(words):
 
 
 if __name__ == "__main__":
+    script.helps(__doc__)
     if "--" not in sys.argv[2:]:
         sys.exit(__doc__)
     sys.exit(main(sys.argv[1:]))

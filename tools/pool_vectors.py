@@ -10,7 +10,7 @@ for the same answers.
 """
 import sys
 
-from lib import calls, pool_recordings, recordings, records
+from lib import calls, pool_recordings, recordings, records, script
 
 
 def layout_faults(recording):
@@ -48,4 +48,5 @@ def main(arguments):
 
 
 if __name__ == "__main__":
+    script.helps(__doc__)
     sys.exit(main(sys.argv[1:]))

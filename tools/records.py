@@ -5,13 +5,16 @@
     records.py pack-replies < TEXT > BYTES     records.py unpack-replies < BYTES > TEXT
     records.py pack-calls < TEXT > BYTES       records.py unpack-calls < BYTES > TEXT
     records.py pack-answers < TEXT > BYTES     records.py unpack-answers < BYTES > TEXT
+    records.py split FILE.txt [FOLDER]         writes NAME.records and NAME.replies into FOLDER (the one you are in), of
+                                               each recording of a text of recordings/: examples, broken, vectors
 
 Bad text ends the run with status 2 and says the line. lib/records.py has the form of a line, lib/calls.py that of calls
 and answers.
 """
+import pathlib
 import sys
 
-from lib import calls, records
+from lib import calls, recordings, records, script
 
 COMMANDS = {
     "pack": lambda data: records.pack(data, records.record_of_text, records.record_bytes),
@@ -25,17 +28,42 @@ COMMANDS = {
 }
 
 
-def main(arguments):
-    if len(arguments) != 1 or arguments[0] not in COMMANDS:
-        print(__doc__ + records.__doc__ + calls.__doc__, file=sys.stderr)
-        return 2
-    try:
+def split(text, folder="."):
+    """Writes the records and the replies of each recording of a text, and says the files."""
+    for name, said, answered in recordings.halves(pathlib.Path(text)):
+        for end, data in (("records", said), ("replies", answered)):
+            path = pathlib.Path(folder) / f"{name}.{end}"
+            path.write_bytes(data)
+            print(path)
+
+
+def done(arguments):
+    """Whether the words are a command, which is then carried out."""
+    if len(arguments) == 1 and arguments[0] in COMMANDS:
         sys.stdout.buffer.write(COMMANDS[arguments[0]](sys.stdin.buffer.read()))
+    elif len(arguments) in (2, 3) and arguments[0] == "split":
+        split(*arguments[1:])
+    else:
+        return False
+    return True
+
+
+def main(arguments):
+    if arguments == ["--help"]:
+        print(__doc__ + records.__doc__ + calls.__doc__)
+        return 0
+    try:
+        if done(arguments):
+            return 0
+        print(__doc__, file=sys.stderr)
     except records.Bad as bad:
         print(f"records.py: {bad}", file=sys.stderr)
-        return 2
-    return 0
+    except OSError as bad:
+        print(f"records.py: {bad.filename}: {bad.strerror}", file=sys.stderr)
+    return 2
 
 
 if __name__ == "__main__":
+    script.helps(__doc__)
+    script.filters()
     sys.exit(main(sys.argv[1:]))

@@ -10,7 +10,7 @@ replies.
 import struct
 import sys
 
-from lib import records, recordings
+from lib import recordings, records, script
 
 REPLY_LIMIT = 512
 MALFORMED = 511
@@ -43,4 +43,5 @@ def main(arguments):
 
 
 if __name__ == "__main__":
+    script.helps(__doc__)
     sys.exit(main(sys.argv[1:]))

@@ -11,7 +11,7 @@ import subprocess
 import sys
 
 sys.path.insert(0, str(pathlib.Path(__file__).resolve().parents[2] / "tools"))
-from lib import records, recordings
+from lib import recordings, records, script
 
 FOLDER = recordings.FROM_RUST
 
@@ -33,4 +33,5 @@ def main(command):
 
 
 if __name__ == "__main__":
+    script.helps(__doc__)
     sys.exit(main(sys.argv[1:]))

@@ -11,14 +11,13 @@ What is asked is a second version here, written from the text of document 02's I
 - a recording cut at every byte, as the first file and as the second; empty files; replies of 65,539 bytes;
 - files that are pipes, written in small pieces.
 Then what can't be read or written: a missing file, a directory, a file without permission, the wrong number of files, a
-full output, one that is closed and one whose reader has gone. Last, the example of docs/OPERATING.md. With --nights
-also two files of 1,000,000 replies that differ in one bit.
+full output, one that is closed and one whose reader has gone. With --nights also two files of 1,000,000 replies that
+differ in one bit.
 """
 import itertools
 import os
 import pathlib
 import random
-import shlex
 import subprocess
 import sys
 import tempfile
@@ -26,12 +25,11 @@ import threading
 from concurrent.futures import ThreadPoolExecutor
 
 sys.path.insert(0, str(pathlib.Path(__file__).resolve().parents[2] / "tools"))
-from lib import recordings
+from lib import recordings, script
 
 SEED = 20265
 SECONDS = 300
 LONGEST = 65535
-OPERATING = recordings.ROOT / "docs" / "OPERATING.md"
 
 
 # ---- Item 5, a second time
@@ -237,39 +235,6 @@ class Compare:
         self.judge("--help", (b"N only second" in said, message, status), (True, "", 0))
 
 
-# ---- the worked example
-
-def worked(section):
-    """The commands of a section of docs/OPERATING.md, each with the lines under it."""
-    found, inside = [], False
-    for line in OPERATING.read_text().splitlines():
-        if line.startswith("#"):
-            inside = line == f"## {section}"
-        elif inside and line.startswith("    $ "):
-            found.append((line[6:], []))
-        elif inside and line.startswith("    ") and found:
-            found[-1][1].append(line[4:])
-    return [(command, "".join(f"{line}\n" for line in said)) for command, said in found]
-
-
-def document(compare):
-    """What docs/OPERATING.md says is what comes out, with ./run, recordings and tools in the folder."""
-    *front, name = compare.command
-    found = worked("Compare two nights")
-    if name != "compare" or not found:
-        print("the example of docs/OPERATING.md: not tried, since the command is no `.. compare`")
-        return
-    for linked in ("recordings", "tools"):
-        (compare.folder / linked).symlink_to(recordings.ROOT / linked)
-    script = compare.folder / "run"
-    script.write_text(f'#!/bin/sh\nexec {shlex.join(front)} "$@"\n')
-    script.chmod(0o755)
-    for command, asked in found:
-        done = subprocess.run(["sh", "-c", command], cwd=compare.folder, stdin=subprocess.DEVNULL,
-                              stdout=subprocess.PIPE, timeout=SECONDS, text=True, check=False)
-        compare.judge(command, done.stdout, asked)
-
-
 def nights(compare):
     """Two nights of 1,000,000 replies that differ in one bit."""
     chance = random.Random(SEED)
@@ -293,7 +258,6 @@ def main(arguments):
         compare.piped()
         compare.failures()
         compare.helps()
-        document(compare)
         if long:
             nights(compare)
     print(f"{compare.runs} runs, {compare.lines} lines, {compare.bad} runs wrong")
@@ -301,4 +265,5 @@ def main(arguments):
 
 
 if __name__ == "__main__":
+    script.helps(__doc__)
     sys.exit(main(sys.argv[1:]))

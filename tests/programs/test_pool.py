@@ -10,14 +10,12 @@ answered something else than what is asked, or `./run ledger --pool` said someth
 - SURFACES that is no number from 1 to 64: a message, no answer, status 2.
 - `./run ledger --pool` on what was answered: kept, status 0. On recordings/pool/broken: each with its lines, status 1.
   Its help.
-- the examples of docs/POOL.md and docs/OPERATING.md.
 tools/pool.py is a stand-in for COMMAND: test_pool.py python3 tools/pool.py.
 """
 import argparse
 import pathlib
 import random
 import re
-import shlex
 import subprocess
 import sys
 import tempfile
@@ -34,8 +32,6 @@ SURFACES = (1, 2, 5, 17, 63, 64)
 CUT = 6
 LEDGER = [str(recordings.ROOT / "run"), "ledger", "--pool"]
 REFUSED = "pool: 20: SURFACES must be a number from 1 to 64\n"
-EXAMPLES = ((recordings.ROOT / "docs" / "POOL.md", None),
-            (recordings.ROOT / "docs" / "OPERATING.md", "Check what a pool answered"))
 
 
 def ended(command, **ends):
@@ -120,8 +116,8 @@ class Tests:
         return f"{ends[-1] + 1} files, each cut at another byte"
 
     def damaged(self):
-        """All vectors as one file, by turns with bytes changed in kinds and bodies, and with bytes changed, left out and
-        put in anywhere."""
+        """All vectors as one file, by turns with bytes changed in kinds and bodies, and with bytes changed, left out
+        and put in anywhere."""
         chance, count = random.Random(SEED), 0
         for turn in range(12):
             said = [call for recording in pool_recordings.read() for call in recording.said]
@@ -239,25 +235,6 @@ class Tests:
                 raise Failed(f"{words}: {said}, {wrong}, status {status}")
         return "of ledger, both forms"
 
-    def documents(self):
-        """What the documents say is what comes out, with ./run, recordings and tools in the folder."""
-        for linked in ("recordings", "tools"):
-            (self.folder / linked).symlink_to(recordings.ROOT / linked)
-        script, own = self.folder / "run", shlex.quote(str(recordings.ROOT / "run"))
-        script.write_text('#!/bin/sh\nname=$1\nshift\n[ "$name" != pool ] || exec '
-                          f'{shlex.join(self.command)} "$@"\nexec {own} "$name" "$@"\n')
-        script.chmod(0o755)
-        count = 0
-        for path, section in EXAMPLES:
-            for command, asked in worked(path, section):
-                found, _, _ = ended(["sh", "-c", command], cwd=self.folder, stdin=subprocess.DEVNULL)
-                count += 1
-                if found.decode() != asked:
-                    raise Failed(f"{path.name}: {command}\n{found.decode()}")
-        if count < 4:
-            raise Failed("no examples")
-        return f"{count} commands"
-
 
 def bent(chance, said, times):
     """Some bytes changed, none of them a call's length."""
@@ -277,21 +254,6 @@ def torn(chance, data, times):
     return bytes(data)
 
 
-def worked(path, section):
-    """The commands of a document, or of one section, each with the lines under it, up to the next line of text."""
-    found, inside, under = [], section is None, False
-    for line in path.read_text().splitlines():
-        if line.startswith("#"):
-            inside = section in (None, line.removeprefix("## "))
-        under = under and (line.startswith("    ") or not line)
-        if inside and line.startswith("    $ "):
-            found.append((line[6:], []))
-            under = True
-        elif under and line:
-            found[-1][1].append(line[4:])
-    return [(command, "".join(f"{line}\n" for line in said)) for command, said in found]
-
-
 def main():
     parser = argparse.ArgumentParser(description=__doc__, formatter_class=argparse.RawDescriptionHelpFormatter)
     parser.add_argument("--calls", type=int, default=40000)
@@ -301,7 +263,7 @@ def main():
         tests = Tests(arguments.command, folder, arguments.calls)
         return tried.run("pool", (
             tests.vectors, tests.cuts, tests.damaged, tests.edges, tests.piecewise, tests.pausing, tests.generated,
-            tests.arguments, tests.failing, tests.broken, tests.helps, tests.documents))
+            tests.arguments, tests.failing, tests.broken, tests.helps))
 
 
 if __name__ == "__main__":

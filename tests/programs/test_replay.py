@@ -18,7 +18,7 @@ from concurrent.futures import ThreadPoolExecutor
 
 sys.path.insert(0, str(pathlib.Path(__file__).resolve().parents[2] / "tools"))
 import failing
-from lib import model, records, recordings, tried
+from lib import model, recordings, records, script, tried
 from lib.tried import Failed
 
 SEED = 20265
@@ -138,4 +138,5 @@ def main(command):
 
 
 if __name__ == "__main__":
+    script.helps(__doc__)
     sys.exit(main(sys.argv[1:]))

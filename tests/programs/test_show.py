@@ -7,7 +7,9 @@ COMMAND gets replies on standard input and must write a line for each. The repli
 recordings/vectors/*.txt, random ones of every kind with counts from 0 to 255, damaged ones and random bytes, the same
 each time. The expected line is the number, then the text of tools/lib/records.py, then a refusal's word. At the end it
 is tried that a line comes before the next reply is sent, that a closed output ends the run, and that an input or output
-that fails, is closed or would block is named on standard error (failing.py).
+that fails, is closed or would block is named on standard error (failing.py). Then `COMMAND --records FILE`: each line
+under its record, for every example and for all vectors, with records or replies left over, and with a file that can't
+be read.
 Status 1 at the first difference, which is printed.
 """
 import pathlib
@@ -15,15 +17,11 @@ import random
 import struct
 import subprocess
 import sys
+import tempfile
 
 sys.path.insert(0, str(pathlib.Path(__file__).resolve().parents[2] / "tools"))
 import failing
-from lib import records, recordings
-
-WORDS = [
-    "not-configured", "bad-limits", "picture-current", "no-current", "out-of-range", "outside-i32", "surface-held",
-    "serials-spent", "store-full", "no-candidate", "too-many", "bad-entry", "malformed", "no-room",
-]
+from lib import recordings, records, script
 
 
 # ---- what is expected
@@ -37,7 +35,7 @@ def spelled(piece):
     text = records.reply_text(reply)
     if reply["kind"] != "refused":
         return text
-    return f"{text} {WORDS[reply['number'] - 1] if reply['number'] <= len(WORDS) else 'unknown'}"
+    return f"{text} {records.REFUSALS.get(reply['number'], 'unknown')}"
 
 
 def expected(data):
@@ -68,7 +66,7 @@ def some_reply(chance):
     """A well-formed reply of any kind."""
     kind = chance.choice(["refused", "done", "begun", "lists"])
     if kind == "refused":
-        of, number = chance.choice(records.KINDS + ["?"]), chance.choice([*range(1, 17), 65535])
+        of, number = chance.choice(records.KINDS + ["?"]), chance.choice([*range(1, 20), 65535])
         return records.reply_bytes({"kind": kind, "of": of, "number": number})
     if kind == "done":
         of = chance.choice([name for name in records.KINDS if name not in ("begin", "lists")])
@@ -190,12 +188,64 @@ def names_it(command):
     return 0
 
 
+# ---- each reply under its record
+
+def together(said, answered):
+    """What is expected of a list of records and a list of replies."""
+    lines = []
+    for place in range(max(len(said), len(answered))):
+        record = "(no record)"
+        if place < len(said):
+            record = recordings.Words.said_text(said[place])
+            if not records.is_whole(said[place]):
+                record = f"({len(said[place])} bytes that are no whole record)"
+        number, reply = (place + 1, spelled(answered[place])) if place < len(answered) else ("-", "(no reply)")
+        lines.append(f"{number} {record}\n  {reply}\n")
+    return "".join(lines).encode()
+
+
+def pairings():
+    """Records and replies that belong together, and some of which one or the other is left over."""
+    for recording in recordings.read(recordings.EXAMPLES):
+        yield recording.said, recording.answered
+    vectors = [recording for recording in recordings.read(recordings.VECTORS) if recordings.in_stream(recording)]
+    yield [x for recording in vectors for x in recording.said], [x for recording in vectors for x in recording.answered]
+    yield recording.said, recording.answered[:-1]
+    yield recording.said[:-1], recording.answered
+    yield [*recording.said, b"\x06\0\x01"], recording.answered
+    yield [*recording.said, b"\x06\0\x01\0\x04"], recording.answered
+    yield [], []
+
+
+def beside(command):
+    count = 0
+    with tempfile.TemporaryDirectory() as folder:
+        path = pathlib.Path(folder) / "records"
+        for said, answered in pairings():
+            path.write_bytes(b"".join(said))
+            done = subprocess.run([*command, "--records", str(path)], input=b"".join(answered), capture_output=True,
+                                  timeout=300, check=False)
+            if (done.returncode, done.stdout, done.stderr) != (0, together(said, answered), b""):
+                print(f"--records, {count}: status {done.returncode}, {done.stdout!r:.300}, {done.stderr!r:.300}")
+                return 1
+            count += 1
+        for bad, why in ((folder, "Is a directory"), (f"{folder}/none", "No such file or directory")):
+            done = subprocess.run([*command, "--records", bad], input=b"", capture_output=True, timeout=300,
+                                  check=False)
+            if (done.returncode, done.stderr) != (2, f"show: {bad}: {why}\n".encode()):
+                print(f"--records {bad}: status {done.returncode}, {done.stderr!r:.300}")
+                return 1
+    print(f"{count} recordings with each reply under its record")
+    return 0
+
+
 def main(command):
     if not command:
         print(__doc__, file=sys.stderr)
         return 2
-    return compare(command) or at_once(command) or stops(command) or names_it(command)
+    return compare(command) or at_once(command) or stops(command) or names_it(command) or beside(command)
 
 
 if __name__ == "__main__":
+    script.helps(__doc__)
     sys.exit(main(sys.argv[1:]))

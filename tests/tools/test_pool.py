@@ -22,7 +22,7 @@ import time
 
 ROOT = pathlib.Path(__file__).resolve().parents[2]
 sys.path.insert(0, str(ROOT / "tools"))
-from lib import calls, exchanges, pool, pool_generate, pool_recordings, records, tried
+from lib import calls, exchanges, pool, pool_generate, pool_recordings, records, script, tried
 from lib.tried import Failed
 
 BEGIN = "begin nal=19 surface=7"
@@ -228,15 +228,16 @@ def by_hand():
     asked = (records.pack(RECORDS.encode(), records.record_of_text, records.record_bytes),
              records.pack(REPLIES.encode(), records.reply_of_text, records.reply_bytes))
     same("exchanges", exchanged(said, answered), asked)
-    same("with an incomplete last call", exchanged(said + b"\4\0\0\0\0", answered), asked)
+    same("with an incomplete last call", exchanged(said + b"\4\0\0\0\0", answered), (asked[0] + b"\xff" * 5, asked[1]))
+    same("within the last answer", exchanged(said, answered[:-1]), (asked[0], asked[1][:-6] + b"\xff" * 13))
     last = len(records.record_bytes(records.record_of_text(RECORDS.splitlines()[-1])))
     same("without the last answer", exchanged(said, answered[:-14]), (asked[0], asked[1][:-6]))
     same("without the last call", exchanged(said[:-last - 4], answered),
          (asked[0][:-last], asked[1][:-6] + exchanges.NOTHING_DONE))
     same("nothing", exchanged(b"", b""), (b"", b""))
     for size in range(len(said)):
-        some = exchanged(said[:size], b"")
-        same(f"{size} bytes, no answer", some[1] == b"" and (some[0] == b"") == (size < 14), True)
+        some = b"\xff" * size if size < 14 else asked[0][:10]
+        same(f"{size} bytes, no answer", exchanged(said[:size], b""), (some, b""))
     return "9 calls, and files that do not pair"
 
 
@@ -367,4 +368,5 @@ def main():
 
 
 if __name__ == "__main__":
+    script.helps(__doc__)
     sys.exit(main())

@@ -1,12 +1,16 @@
 #!/usr/bin/env python3
-"""Packing what was unpacked gives the same bytes: on random bytes, and on whole records and replies with damage."""
+"""Packing what was unpacked gives the same bytes: on random bytes, and on whole records and replies with damage. What
+`records.py split` writes of each text of recordings/ is its bytes."""
 import pathlib
 import random
 import struct
+import subprocess
 import sys
+import tempfile
 
-sys.path.insert(0, str(pathlib.Path(__file__).resolve().parents[2] / "tools"))
-from lib import records
+TOOLS = pathlib.Path(__file__).resolve().parents[2] / "tools"
+sys.path.insert(0, str(TOOLS))
+from lib import records, recordings, script
 
 FORMS = {
     "records": (records.record_of, records.record_text, records.record_of_text, records.record_bytes),
@@ -56,7 +60,31 @@ def damaged(rng, data):
     return rng.choice([data[:place], data[:place] + rng.randbytes(1) + data[place + 1:], data + rng.randbytes(1)])
 
 
-def main():
+def split(texts):
+    """What `records.py split` writes of the texts of a folder: the bytes of each file."""
+    with tempfile.TemporaryDirectory() as folder:
+        for path in sorted(texts.glob("*.txt")):
+            words = [sys.executable, str(TOOLS / "records.py"), "split", str(path), folder]
+            assert subprocess.run(words, stdout=subprocess.DEVNULL, check=False).returncode == 0, path
+        return {path.name: path.read_bytes() for path in pathlib.Path(folder).iterdir()}
+
+
+def splits():
+    """How many files `records.py split` writes; those of an example are the ones that stand beside it, and those of a
+    vector are its records and replies."""
+    beside = [*recordings.EXAMPLES.glob("*.records"), *recordings.EXAMPLES.glob("*.replies")]
+    examples, vectors, broken = map(split, (recordings.EXAMPLES, recordings.VECTORS, recordings.BROKEN))
+    assert examples == {path.name: path.read_bytes() for path in beside}
+    for recording in recordings.read(recordings.VECTORS):
+        assert vectors[f"{recording.name}.records"] == b"".join(recording.said), recording.name
+        assert vectors[f"{recording.name}.replies"] == b"".join(recording.answered), recording.name
+    names = {f"{path.stem}.{end}" for path in recordings.BROKEN.glob("*.txt") for end in ("records", "replies")}
+    assert set(broken) == names
+    return len(examples) + len(vectors) + len(broken)
+
+
+def packs():
+    """How many lines were unpacked and packed again, and how many of these were raw."""
     rng, raw, lines = random.Random(265), 0, 0
     for _ in range(5000):
         for made, form in ((record(rng), FORMS["records"]), (reply(rng), FORMS["replies"])):
@@ -67,8 +95,10 @@ def main():
                 assert records.pack(text, of_text, to_bytes) == data, data.hex(" ")
                 lines += text.count(b"\n")
                 raw += text.count(b"raw")
-    print(f"{lines} lines, {raw} of them raw")
+    return lines, raw
 
 
 if __name__ == "__main__":
-    main()
+    script.helps(__doc__)
+    print("{} lines, {} of them raw".format(*packs()))
+    print(f"{splits()} files of records and replies split")

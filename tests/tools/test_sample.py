@@ -10,6 +10,7 @@ TESTS = pathlib.Path(__file__).resolve().parents[1]
 TOOLS = TESTS.parent / "tools"
 sys.path[:0] = [str(TOOLS), str(TESTS / "programs")]
 import sample
+from lib import script
 
 # answers as the model does, with one thing wrong in every recording that is long enough
 PROGRAM = """
@@ -61,6 +62,7 @@ def test_files():
 
 
 if __name__ == "__main__":
+    script.helps(__doc__)
     test_programs()
     test_files()
     print(f"{len(DAMAGES)} programs and a damaged file judged")

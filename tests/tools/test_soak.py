@@ -9,7 +9,7 @@ import tempfile
 TOOLS = str(pathlib.Path(__file__).resolve().parents[2] / "tools")
 sys.path.insert(0, TOOLS)
 import soak
-from lib import model, records
+from lib import model, records, script
 
 SAID = """
 0  configure k=4 capacity=4 buffering=4 reorder=1 latency=0
@@ -89,6 +89,7 @@ PLANTED = [
     (25, "refused begin 7", "number 7"),
     (6, "refused begin 3", "number 3"),
     (11, "refused finish 4", "number 4"),
+    (11, "refused finish 7", "number 7 to another"),
     (26, "refused lists 4", "another kind"),
     (27, "done configure handed=10:8:1", "still held"),
     (3, "begun poc=3 output valid serial=1 before=0", "low bits"),
@@ -161,5 +162,6 @@ def test_soak():
 
 
 if __name__ == "__main__":
+    script.helps(__doc__)
     planted = test_ledger()
     print(f"{planted} planted faults found by the ledger, {test_soak()} programs judged")

@@ -1,14 +1,18 @@
 #!/usr/bin/env python3
 """tools/lib/status.py passes on what a command writes, byte for byte and at once, and ends with 0, 1 or 2 by the rule
-of `compare`: nothing written, something, or an error; and by that of `pool`, for which something written is no
-difference. Status 1 at the first that is not so."""
+of `compare`: nothing written, something, or an error; by that of `ledger`: kept, broken, or neither; and by none, as
+for `pool`, which has standard output itself. Status 1 at the first that is not so."""
 import os
 import pathlib
 import signal
 import subprocess
 import sys
 
-SCRIPT = pathlib.Path(__file__).resolve().parents[2] / "tools" / "lib" / "status.py"
+TOOLS = pathlib.Path(__file__).resolve().parents[2] / "tools"
+sys.path.insert(0, str(TOOLS))
+from lib import script
+
+SCRIPT = TOOLS / "lib" / "status.py"
 UNWRITTEN = b"compare: standard output can't be written\n"
 
 
@@ -22,8 +26,8 @@ def ended(words, **ends):
     return done.stdout or b"", done.stderr, done.returncode
 
 
-def closed(text, ends):
-    return ["sh", "-c", f'exec "$@" {ends}', "sh", *command(text)]
+def closed(text, ends, name="compare"):
+    return ["sh", "-c", f'exec "$@" {ends}', "sh", *command(text, name)]
 
 
 def plain():
@@ -40,6 +44,12 @@ def plain():
     yield ended(command("cat", "pool"), input=b"of standard input"), (b"of standard input", b"", 0)
     yield ended(command("true", "pool")), (b"", b"", 0)
     yield ended(command("cat; echo bad >&2", "pool"), input=b"some"), (b"some", b"bad\n", 2)
+    yield ended(command("kill -9 $$", "pool")), (b"", b"pool: ended by signal 9\n", 2)
+    yield ended(command("echo kept: all", "ledger")), (b"kept: all\n", b"", 0)
+    yield ended(command("printf ke; sleep 0.2; echo pt: all", "ledger")), (b"kept: all\n", b"", 0)
+    yield ended(command("echo broken at reply 1", "ledger")), (b"broken at reply 1\n", b"", 1)
+    yield ended(command("true", "ledger")), (b"", b"ledger: said nothing\n", 2)
+    yield ended(command("echo what", "ledger")), (b"what\n", b"ledger: said nothing\n", 2)
 
 
 def refusing():
@@ -55,6 +65,10 @@ def refusing():
     out, into = os.pipe()
     os.close(out)
     yield ended(command("yes"), stdout=into), (b"", UNWRITTEN, 2)
+    # a program without a rule meets the end itself, and a reader that goes away is no error
+    yield ended(command("exec yes", "show"), stdout=into), (b"", b"", -signal.SIGPIPE)
+    yield ended(closed("[ -e /dev/fd/1 ] || echo closed >&2", ">&-", "show")), (b"", b"closed\n", 2)
+    yield ended(closed("[ -e /dev/fd/0 ] || echo closed", "<&-", "show")), (b"closed\n", b"", 0)
     os.close(into)
 
 
@@ -81,4 +95,5 @@ def main():
 
 
 if __name__ == "__main__":
+    script.helps(__doc__)
     sys.exit(main())

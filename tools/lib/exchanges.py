@@ -9,8 +9,8 @@ MOST = 64
 MALFORMED = 511
 # a malformed record that can stand in a file, and its reply: they stand for a call that moves nothing
 NOTHING_SAID, NOTHING_DONE = bytes([0, 0, 0, 0]), bytes([2, 0, 255, 1, 13, 0])
-# what the ledger takes for no whole reply: one that is cut short, and one of a kind that is none
-CUT_SHORT, NO_REPLY = b"\0", bytes([0, 0, 0, 0])
+# what the ledger takes for no whole reply: one of a kind that is none
+NO_REPLY = bytes([0, 0, 0, 0])
 
 
 # ---- records and replies for the ledger
@@ -48,11 +48,17 @@ def exchange(call, answer):
     return record_for(call, surface, reply), reply if records.is_whole(reply) else NO_REPLY
 
 
+def cut_short(message):
+    """A record or reply that is not whole, with as many bytes as are there of a call or answer that is not: a head that
+    says more than any has."""
+    return b"\xff" * len(message)
+
+
 def without_partner(call, answer):
     """The same where the files end, or one before the other. An incomplete last call has no answer."""
     if records.is_whole(call):
-        return record_for(call), CUT_SHORT if answer else b""
-    return b"", NOTHING_DONE if records.is_whole(answer) else CUT_SHORT if answer else b""
+        return record_for(call), cut_short(answer)
+    return cut_short(call), NOTHING_DONE if records.is_whole(answer) else cut_short(answer)
 
 
 def exchanges(calls_file, answers_file):

@@ -1,12 +1,13 @@
 """What somebody can tell from records and replies alone: a ledger of every picture, and the faults it finds (demand 3
 of docs/01-scope.md).
 
-It knows nothing of sets, marks, limits or the store: only who was begun on which surface, who is current, handed out,
-thrown away, released.
+It knows nothing of sets, marks, limits or the store but that this holds 16: only who was begun on which surface, who is
+current, handed out, thrown away, released.
 """
 from . import records
 
 MISSING = records.MISSING
+CAPACITY = 16
 THROWS = ("begin", "discard", "abandon")
 
 
@@ -60,6 +61,7 @@ class Ledger:
         fault_if(reply["number"] == 3 and self.current is None, "number 3 with no picture current")
         fault_if(reply["number"] == 4 and self.current is not None, "number 4 with a picture current")
         if reply["number"] == 7:
+            fault_if(reply["of"] != "begin", "number 7 to another record than a begin")
             held = self.by_surface.get(record["surface"])
             fault_if(held is None or held.current, "number 7 for a surface that no stored picture holds")
 
@@ -116,6 +118,8 @@ class Ledger:
         if said == "configure":
             self.k = record["k"]
         self.tail(said, reply)
+        stored = len(self.by_surface) - (self.current is not None)
+        fault_if(stored > CAPACITY, f"{stored} pictures are stored")
         if said in ("drain", "configure", "discard"):
             fault_if(self.by_surface, f"a surface is still held behind {said}")
             fault_if(self.pictures, f"a picture still waits behind {said}")

@@ -5,8 +5,8 @@ A file is a line `pool NAME, N surfaces: what it shows`, then for each call a li
 (calls.py has their form). A line that starts with '#' is a comment. NAME.calls and NAME.answers are the bytes.
 
 recordings/pool/broken/NAME.txt has calls and answers with damage, for `ledger --pool`: a line `ledger kept` or
-`ledger broken at reply N (part P)`, a line `pool kept` or the line that is to be said of the pool, and lines `> CALL`
-and `< ANSWER`, which need not pair.
+`ledger broken at reply N (part P)` with what is named behind it, a line `pool kept` or the line that is to be said of
+the pool, and lines `> CALL` and `< ANSWER`, which need not pair.
 """
 import re
 
@@ -104,7 +104,7 @@ class Damaged:
     def is_said(self, text):
         """Whether this is what is to be said: the ledger's line, and the pool's."""
         line, _, rest = text.partition("\n")
-        broken = re.fullmatch(r"broken at reply (\d+): .+ (\(part \d+\))", line)
+        broken = re.fullmatch(r"broken at reply (\d+): .+ (\(part \d+\).*)", line)
         said = f"broken at reply {broken[1]} {broken[2]}" if broken else line.partition(":")[0]
         return (said, rest) == (self.ledger, self.pool)
 

@@ -53,6 +53,26 @@ def read(folder):
     return found
 
 
+def halves(path):
+    """A text's recordings as (name, records, replies), in bytes. Records and replies need not take turns, so a broken
+    recording is taken too; one without a name has its file's."""
+    found = []
+    for place, line in enumerate(path.read_text().splitlines(), 1):
+        name = re.match(r"recording ([a-z0-9-]+):", line)
+        if name or (line[:1] in (">", "<") and not found):
+            found.append((name[1] if name else path.stem, [], []))
+        try:
+            if line.startswith(">"):
+                found[-1][1].append(records.record_bytes(records.record_of_text(line[1:])))
+            elif line.startswith("<"):
+                found[-1][2].append(records.reply_bytes(records.reply_of_text(line[1:])))
+            elif line.strip() and not line.startswith(("#", "recording ", "broken at reply ")):
+                raise records.Bad("no recording, record or reply")
+        except records.Bad as bad:
+            raise records.Bad(f"{path}:{place}: {bad}") from None
+    return [(name, b"".join(said), b"".join(answered)) for name, said, answered in found]
+
+
 def in_stream(recording):
     """Whether its records can stand in a stream."""
     return all(records.is_whole(said) for said in recording.said)

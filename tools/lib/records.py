@@ -32,6 +32,10 @@ SLICES = ["B", "P", "I"]
 LONG_FLAGS = ["unused", "used", "unused+msb", "used+msb"]
 BEGUN_FLAGS = ["norasl", "output", "valid", "noprior"]
 LISTS_FLAGS = ["modify0", "modify1", "own"]
+REFUSALS = dict(enumerate([
+    "not-configured", "bad-limits", "picture-current", "no-current", "out-of-range", "outside-i32", "surface-held",
+    "serials-spent", "store-full", "no-candidate", "too-many", "bad-entry", "malformed", "no-room",
+], 1)) | {18: "none-free"}
 MISSING = 4294967295
 BODY_LIMIT = 512
 U8, U16, U32 = (0, 255), (0, 65535), (0, 4294967295)
