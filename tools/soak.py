@@ -7,7 +7,8 @@ For each profile of generate.py one long recording and some short ones go to COM
 of its own. Every record must get one reply, and lib/ledger.py must find no fault: every picture with output flag 1 is
 exactly one of current, waiting, handed out once, thrown away by a named call; every begin's surface is still held or
 was released exactly once; every list names only the current picture, missing entries and stored pictures whose surfaces
-are unreleased. With --model each reply must also be the model's. Status 1 at the first fault.
+are unreleased. Every POC must be the one that the rule of docs/POC.md gives (lib/poc.py). With --model each reply must
+also be the model's. Status 1 at the first fault.
 """
 import argparse
 import struct
@@ -17,7 +18,7 @@ import threading
 import time
 from collections import Counter, deque
 
-from lib import generate, ledger, model, records
+from lib import generate, ledger, model, poc, records
 
 SHORT = 400
 CLIMB = 145000
@@ -77,13 +78,26 @@ class Checker:
 
     def __init__(self, with_model):
         self.ledger, self.count = ledger.Ledger(), 0
+        # what lib/poc.py notes, and how many POCs were compared with its rule
+        self.notes, self.pocs = poc.NOTHING, 0
         self.session = model.Session() if with_model else None
 
-    def take(self, record, reply):
-        self.count += 1
+    def fault(self, record, reply):
+        """What the ledger finds or, where it finds nothing, the rule of POC; none where all is as it should be."""
         try:
             self.ledger.take(record, reply)
         except ledger.Fault as fault:
+            return str(fault)
+        self.notes, given = poc.told(self.notes, record, reply)
+        if given is None:
+            return None
+        self.pocs += 1
+        return poc.wrong(reply, given)
+
+    def take(self, record, reply):
+        self.count += 1
+        fault = self.fault(record, reply)
+        if fault:
             return f"record {self.count - 1}: {fault}: {shown(record, reply)}"
         if self.session is not None:
             wanted = self.session.step(record)[1]
@@ -136,19 +150,20 @@ def main():
     parser.add_argument("command", nargs="+")
     arguments = parser.parse_args()
     profiles = [arguments.profile] if arguments.profile else generate.PROFILES
-    started, sums, count, recordings = time.time(), Counter(), 0, 0
+    started, sums, count, pocs, recordings = time.time(), Counter(), 0, 0, 0
     for profile in profiles:
         for seed, size in plan(profile, arguments.records // len(profiles) + 1, arguments.seed):
             checker, wrong = soak(arguments.command, profile, seed, size, arguments.model)
             if wrong:
                 print(f"generate.py {profile} {seed} {size}, {wrong}")
                 return 1
-            recordings, count = recordings + 1, count + checker.count
+            recordings, count, pocs = recordings + 1, count + checker.count, pocs + checker.pocs
             sums.update(checker.ledger.sums)
         print(f"{profile}: {count} records so far, {time.time() - started:.0f} s", flush=True)
     words = ", ".join(f"{value} {name}" for name, value in sums.items())
     alike = " and the model’s" if arguments.model else ""
-    print(f"{recordings} recordings, {count} records, every reply in order{alike}; pictures: {words}")
+    print(f"{recordings} recordings, {count} records, every reply in order{alike}; pictures: {words}; "
+          f"{pocs} POCs compared with the rule")
     return 0
 
 

@@ -76,13 +76,8 @@ def main(words):
         status.say(NAME, bad)
         return 2
     drawn = drawing.svg(shown, pathlib.Path(asked.files[0]).name, asked.lists)
-    if closed or not status.passed(1, drawn.encode()):
-        status.say(NAME, "standard output can't be written")
-        return 2
-    if shown.fault:
-        status.say(NAME, f"{asked.files[1]}, {drawing.fault_words(shown)}; drawn up to there")
-        return 1
-    return 0
+    taken = not closed and status.passed(1, drawn.encode())
+    return timeline.ended(NAME, shown, asked.files[1], taken, "; drawn up to there")
 
 
 if __name__ == "__main__":

@@ -15,7 +15,7 @@ sys.path.insert(0, str(ROOT / "tools"))
 from lib import script
 
 SECONDS = 600
-PAGES = [ROOT / "README.md", *(ROOT / "docs" / name for name in ("INTEGRATING.md", "OPERATING.md", "POOL.md"))]
+PAGES = [ROOT / "README.md", *(ROOT / "docs" / name for name in ("INTEGRATING.md", "OPERATING.md", "POC.md", "POOL.md"))]
 LINKED = ("run", "recordings", "tools")
 MARK = "    $ "
 

@@ -237,7 +237,7 @@ class Band:
         if not self.shown.fault or self.last < self.shown.count:
             return ""
         path = f"M{number(self.edge)} {number(self.rows - 4)}V{number(self.end)}"
-        return element("path", title(fault_words(self.shown)), class_="stop", d=path, stroke=RED, stroke_width=2,
+        return element("path", title(timeline.fault_words(self.shown)), class_="stop", d=path, stroke=RED, stroke_width=2,
                        stroke_dasharray="5 3")
 
     # lists
@@ -376,11 +376,6 @@ def summary(shown, last):
             f"{len(shown.refusals)} refused")
 
 
-def fault_words(shown):
-    """What ended the timeline, or none."""
-    return shown.fault and f"{shown.words[1]} {shown.count + 1}: {shown.fault}"
-
-
 def stacked(shown, limits, step):
     """The bands below each other, the first at 0."""
     found, y, rows = [], 0, surfaces(shown)
@@ -395,7 +390,7 @@ def svg(shown, name, with_lists=False):
     last = min(shown.last, shown.count)
     found, high = stacked(shown, *bands(shown.first, last))
     wide = max([800, 2 * MARGIN + 11 * len(name), *[band.right for band in found]])
-    said, fault = summary(shown, last), fault_words(shown)
+    said, fault = summary(shown, last), timeline.fault_words(shown)
     head = [text(name, MARGIN, 28, font_size=16, font_weight="bold"), text(said, MARGIN, 47, font_size=11)]
     if fault:
         head.append(text(f"Drawn up to {fault}", MARGIN, 64, font_size=11, fill=RED))

@@ -20,6 +20,21 @@ def fault_if(test, text):
         raise Fault(text)
 
 
+def together(data, answer):
+    """A record, none where it is malformed, and its reply, from their bytes; raises Fault where the reply can't be read
+    or is not one to this record."""
+    record, reply = records.record_of(data), records.reply_of(answer)
+    fault_if(reply is None, "the reply is not well-formed")
+    if reply["kind"] == "refused":
+        fault_if((record is None) != (reply["of"] == "?"), "number 13 and its kind do not belong together")
+        fault_if(record is not None and record["kind"] != reply["of"], "the refusal is to another kind of record")
+        return record, reply
+    fault_if(record is None, "a malformed record was accepted")
+    said = {"begun": "begin", "lists": "lists"}.get(reply["kind"]) or reply["of"]
+    fault_if(said != record["kind"], "the reply is to another kind of record")
+    return record, reply
+
+
 class Picture:
     def __init__(self, serial, surface, poc, output):
         self.serial, self.surface, self.poc, self.output = serial, surface, poc, output
@@ -41,13 +56,10 @@ class Ledger:
 
     def take(self, data, answer):
         """One record and its reply, as bytes; raises Fault."""
-        record, reply = records.record_of(data), records.reply_of(answer)
-        fault_if(reply is None, "the reply is not well-formed")
+        record, reply = together(data, answer)
         if reply["kind"] == "refused":
             return self.refused(record, reply)
-        fault_if(record is None, "a malformed record was accepted")
-        said = {"begun": "begin", "lists": "lists"}.get(reply["kind"]) or reply["of"]
-        fault_if(said != record["kind"], "the reply is to another kind of record")
+        said = record["kind"]
         if said == "lists":
             return self.lists(record, reply)
         return self.begin(record, reply) if said == "begin" else self.call(said, record, reply)
@@ -56,8 +68,6 @@ class Ledger:
 
     def refused(self, record, reply):
         self.sums["refused"] += 1
-        fault_if((record is None) != (reply["of"] == "?"), "number 13 and its kind do not belong together")
-        fault_if(record is not None and record["kind"] != reply["of"], "the refusal is to another kind of record")
         fault_if(reply["number"] == 3 and self.current is None, "number 3 with no picture current")
         fault_if(reply["number"] == 4 and self.current is not None, "number 4 with a picture current")
         if reply["number"] == 7:

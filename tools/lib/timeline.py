@@ -6,7 +6,7 @@ lib/drawing.py does.
 """
 from collections import namedtuple
 
-from . import calls, exchanges, ledger, records
+from . import calls, exchanges, ledger, records, status
 
 CURRENT, WAITING, REFERENCE = "current", "waiting", "reference"
 MOMENTS = {"configure": "configure", "drain": "drain", "discard": "discard", "end": "end of sequence"}
@@ -195,3 +195,20 @@ def read(timeline, found):
             timeline.fault = str(fault)
             return
         yield timeline.count
+
+
+def fault_words(timeline):
+    """What ended the timeline, or none."""
+    return timeline.fault and f"{timeline.words[1]} {timeline.count + 1}: {timeline.fault}"
+
+
+def ended(name, timeline, answered, taken, more=""):
+    """The status of a command over a timeline: 2 standard output has not taken all; 1 a fault ended the timeline, which
+    is said with the file of the answers; 0 else."""
+    if not taken:
+        status.say(name, "standard output can't be written")
+        return 2
+    if timeline.fault:
+        status.say(name, f"{answered}, {fault_words(timeline)}{more}")
+        return 1
+    return 0

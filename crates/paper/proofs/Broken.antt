@@ -33,7 +33,7 @@ abbrev quietly : List ℕ
 quietly = tailOf [] [] []
 
 -- a record of this kind without a body, and its reply with this tail
-abbrev call : ℕ → List ℕ → Exchange
+abbrev pub call : ℕ → List ℕ → Exchange
 call kind t = record { said = 0 ∷ 0 ∷ kind ∷ 0 ∷ []; answered = framed (replyTo kind) 0 t; reading = opening }
 
 -- an IDR picture begun on this surface, and the reply: its flags, serial, the serials of StCurrBefore and the tail
@@ -248,7 +248,7 @@ unfolding none
 is-some x xs e = not-both (none (x ∷ xs)) (ap none e) refl
 
 infixr 20 _and_
-abbrev _and_ : {A B : Type 0} → A → B → A × B
+abbrev pub _and_ : {A B : Type 0} → A → B → A × B
 a and b = (a, b)
 
 -- NO SENTENCE HOLDS OF THE EXCHANGES UNDER IT

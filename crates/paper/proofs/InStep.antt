@@ -20,17 +20,13 @@ use Rattle.paper.specs.State.{Session, fresh, onNow, modulus}
 use Rattle.paper.specs.Nal.{taken, irap, idr}
 use Rattle.paper.specs.Ranges.{longOk, entriesOf, falling, rising, beginRanges, configureRanges}
 use Rattle.paper.specs.Poc.{msbOf}
-use Rattle.paper.specs.Nearest.{Nearest}
+use Rattle.paper.specs.Nearest.{TheOnly, Multiple}
 use Rattle.paper.specs.Begin.{startsOver, prevFor, msb, poc, begunCurrent}
 use Rattle.paper.specs.Calls.{prevAfter, prevNow}
 use Rattle.paper.specs.Step.{Decided, decideOf, stepOf, sessionAfter}
 use Rattle.paper.proofs.Bools.{not-both, by-case}
 use Rattle.paper.proofs.Nearest.{poc-rule}
 use Rattle.paper.proofs.Ways.{Accepted, yes-of, by-ways}
-
-pub record Multiple (M : ℕ) (z : ℤ) : Type 0 where
-  pub times : ℤ
-  pub is : z ≡ times *ℤ pos M
 
 abbrev pub PrevOk : ℕ → Prev → Type 0
 PrevOk M Prev.Nothing = Unit {0}
@@ -102,7 +98,7 @@ module _ (s : Session) (r : List ℕ) (i : InStep s) where
   finish-prev : (c : Current) → s .current ≡ Now.Is c → PrevOk M (prevAfter (s .prev) c)
   finish-prev c e = prev-after M (s .prev) c (i .prev) (rw e at (i .now))
 
-  in-step : InStep (decideOf s r .next)
+  pub in-step : InStep (decideOf s r .next)
   in-step =
       by-ways s r Steps
       (record {
@@ -118,6 +114,9 @@ module _ (s : Session) (r : List ℕ) (i : InStep s) where
         abandon = λ k c e. record { inStep = record { prev = i .prev; now = tt; wide = i .wide } };
       }) .inStep
 
+pub in-step-fresh : InStep fresh
+in-step-fresh = record { prev = tt; now = tt; wide = λ e. absurd (let z : _≡_ {A = ℕ} 0 1 = cc in omega arith) }
+
 always-in-step : (s : Session) (rs : List (List ℕ)) → InStep s → InStep (sessionAfter s rs)
 unfolding sessionAfter stepOf
 always-in-step s [] i = i
@@ -125,11 +124,11 @@ always-in-step s (r ∷ rs) i = always-in-step (decideOf s r .next) rs (in-step 
 
 -- "the previous MSB is always a multiple of M, also after configure, drain, discard and abandon"
 pub in-step-after : (rs : List (List ℕ)) → InStep (sessionAfter fresh rs)
-in-step-after rs = always-in-step fresh rs (record { prev = tt; now = tt; wide = λ e. absurd (let z : _≡_ {A = ℕ} 0 1 = cc in omega arith) })
+in-step-after rs = always-in-step fresh rs in-step-fresh
 
 -- POC in one line: of an accepted begin that does not start over, with a previous Tid0 picture of lsb q and MSB Q
 pub poc-in-one-line : (s : Session) (f : Fields) (q : ℕ) (Q : ℤ) → InStep s → Accepted s f → startsOver s f ≡ false → s .prev ≡ Prev.Tid0 q Q
-    → Nearest (modulus (s .limits)) (Q +ℤ pos q) (f .lsb) (poc s f) × ((v : ℤ) → Nearest (modulus (s .limits)) (Q +ℤ pos q) (f .lsb) v → v ≡ poc s f)
+    → TheOnly (modulus (s .limits)) (Q +ℤ pos q) (f .lsb) (poc s f)
 unfolding poc
 poc-in-one-line s f q Q i z e p =
     let o : PrevOk (modulus (s .limits)) (Prev.Tid0 q Q) = rw p at (i .prev) in

@@ -33,4 +33,7 @@ pub mod Watching
 pub mod Unbroken
 pub mod Demand
 pub mod Refusals
+pub mod InWords
+pub mod OneLine
+pub mod PocExamples
 pub mod Cases

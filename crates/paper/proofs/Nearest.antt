@@ -9,12 +9,13 @@ use native.Mathlib.Nat.{add-mul, suc-mul, mul-le-mul-right, mod-lt, div-add-mod'
 use native.Mathlib.Omega.{arith}
 use lib.Dec.{T, ltb, leb, ltb→lt, leb→le, nltb→le, nleb→lt}
 use lib.Pow.{pow-pos}
-use lib.IntN.{ℤ, pos, negsuc, negℤ, sucℤ, predℤ, _+ℤ_, _-ℤ_, _*ℤ_, sucℤ-*ℤ, predℤ-*ℤ}
+use lib.IntN.{ℤ, pos, negsuc, negℤ, natAbs, sucℤ, predℤ, _+ℤ_, _-ℤ_, _*ℤ_, sucℤ-*ℤ, predℤ-*ℤ}
+use lib.Signed.{_≤ℤ_}
 use mir.Facts.{and-yes, and-no}
 use Rattle.paper.specs.declared.Prev.the-variants.{Tid0}
 use Rattle.paper.specs.Poc.{modZ, msbOf, pocOf}
-use Rattle.paper.specs.Nearest.{Nearest}
-use Rattle.paper.proofs.Whole.{up, dn, up-add, up-sub, up-mul, dn-mul, up-pos, dn-pos, up-neg-is, dn-neg-is, ext, lt-of, le-of, to-lt, to-le, of-eq}
+use Rattle.paper.specs.Nearest.{Nearest, Closest, TheOnly, nearestTo}
+use Rattle.paper.proofs.Whole.{up, dn, up-add, up-sub, up-mul, dn-mul, up-pos, dn-pos, up-neg-is, dn-neg-is, abs-up, abs-dn, abs-least, ext, lt-of, le-of, to-lt, to-le, of-eq}
 
 either : {X Y : Type 0} (t : Bool) → (T t → X) → (T (not t) → Y) → X ⊎ Y
 either true f g = inl (f tt)
@@ -140,10 +141,10 @@ near M q l Q z s h e a b =
     let H = M / 2 in
     record {
       rem = rw e (mod-of s M l h);
-      above = to-lt (negℤ (pos H)) (v -ℤ p)
-          (omega (arith, up-sub v p, up-add z (pos l), up-add Q (pos q), up-pos l, dn-pos l, up-pos q, dn-pos q, up-neg-is (pos H), dn-neg-is (pos H), up-pos H, dn-pos H));
-      most = to-le (v -ℤ p) (pos H)
-          (omega (arith, up-sub v p, up-add z (pos l), up-add Q (pos q), up-pos l, dn-pos l, up-pos q, dn-pos q, up-pos H, dn-pos H));
+      above = to-lt _ _
+          (omega (arith, up-sub v p, up-sub p v, up-add z (pos l), up-add Q (pos q), up-pos l, dn-pos l, up-pos q, dn-pos q, up-neg-is (pos H), dn-neg-is (pos H), up-pos H, dn-pos H));
+      most = to-le _ _
+          (omega (arith, up-sub v p, up-sub p v, up-add z (pos l), up-add Q (pos q), up-pos l, dn-pos l, up-pos q, dn-pos q, up-pos H, dn-pos H));
     }
 
 module _ (M q l : ℕ) (Q t : ℤ) (is : Q ≡ t *ℤ pos M) (hq : q < M) (hl : l < M) (even : M % 2 ≡ 0) where
@@ -184,12 +185,93 @@ near-one M l p x y h a b =
     (omega (arith, lt-of _ _ (b .above), le-of _ _ (a .most), up-sub x p, up-sub y p, up-neg-is (pos H), dn-neg-is (pos H), up-pos H, dn-pos H))
     (omega (arith, lt-of _ _ (a .above), le-of _ _ (b .most), up-sub x p, up-sub y p, up-neg-is (pos H), dn-neg-is (pos H), up-pos H, dn-pos H))
 
-pow-even : (k : ℕ) → 0 < k → 2 ^ k % 2 ≡ 0
+-- ---- the number as one sum
+module _ (M l : ℕ) (p : ℤ) (h : l < M) (even : M % 2 ≡ 0) where
+  abbrev u : ℤ
+  u = p +ℤ pos (M / 2)
+
+  abbrev d : ℕ
+  d = modZ (u -ℤ pos l) M
+
+  -- a multiple of M and l
+  sum-is : u -ℤ pos d ≡ quo (u -ℤ pos l) M *ℤ pos M +ℤ pos l
+  sum-is =
+      let t = quo (u -ℤ pos l) M *ℤ pos M in
+      ext _ _
+      (omega (arith, up-sub u (pos d), up-add t (pos l), of-eq (u -ℤ pos l) (t +ℤ pos d) (mod-split (u -ℤ pos l) M (omega arith)), up-sub u (pos l), up-add t (pos d), up-pos l, dn-pos l, up-pos d, dn-pos d))
+
+  pub sum-near : Nearest M p l (nearestTo M p l)
+  sum-near =
+      let v = u -ℤ pos d in
+      let H = M / 2 in
+      let b : d < M = mod-below (u -ℤ pos l) M (omega arith) in
+      record {
+        rem = ap (λ (z : ℤ). modZ z M) sum-is ∙ mod-of (quo (u -ℤ pos l) M) M l h;
+        above = to-lt (negℤ (pos H)) (v -ℤ p) (omega (arith, up-sub v p, up-sub u (pos d), up-add p (pos H), up-neg-is (pos H), dn-neg-is (pos H), up-pos H, dn-pos H, up-pos d, dn-pos d));
+        most = to-le (v -ℤ p) (pos H) (omega (arith, up-sub v p, up-sub u (pos d), up-add p (pos H), up-pos H, dn-pos H, up-pos d, dn-pos d));
+      }
+
+-- ---- "the nearest to p, and upward on a tie"
+-- a number w of the same remainder is v, lies M or more above it, or M or more below it
+data Beside (M : ℕ) (v w : ℤ) : Type 0 where
+  it : w ≡ v → Beside M v w
+  over : up v + dn w + M ≤ up w + dn v → Beside M v w
+  under : up w + dn v + M ≤ up v + dn w → Beside M v w
+
+beside : (M : ℕ) (v w : ℤ) → 0 < M → modZ w M ≡ modZ v M → Beside M v w
+beside M v w h e =
+    ⊎-elim
+    (λ a. ⊎-elim (λ b. it (same M w v h e a b)) (λ b. under (omega arith)) (lt-or-ge (up v + dn w) (up w + dn v + M)))
+    (λ a. over (omega arith))
+    (lt-or-ge (up w + dn v) (up v + dn w + M))
+
+module _ (M l : ℕ) (p v : ℤ) (h : 0 < M) (n : Nearest M p l v) where
+  abbrev H : ℕ
+  H = M / 2
+
+  -- where v lies, for `omega`
+  low : up p + dn v < up v + dn p + H
+  low = omega (arith, lt-of _ _ (n .above), up-sub v p, up-neg-is (pos H), dn-neg-is (pos H), up-pos H, dn-pos H)
+
+  high : up v + dn p ≤ up p + dn v + H
+  high = omega (arith, le-of _ _ (n .most), up-sub v p, up-pos H, dn-pos H)
+
+  within : natAbs (v -ℤ p) ≤ H
+  within = abs-least (v -ℤ p) H (omega (arith, high, up-sub v p)) (omega (arith, low, up-sub v p))
+
+  -- what lies M or more above is farther from p, and what lies M or more below is no nearer
+  over-farther : (w : ℤ) → up v + dn w + M ≤ up w + dn v → natAbs (v -ℤ p) < natAbs (w -ℤ p)
+  over-farther w a = omega (arith, low, within, up-sub w p, abs-up (w -ℤ p))
+
+  under-far : (w : ℤ) → up w + dn v + M ≤ up v + dn w → natAbs (v -ℤ p) ≤ natAbs (w -ℤ p)
+  under-far w a = omega (arith, high, within, up-sub w p, abs-dn (w -ℤ p))
+
+  closest : Closest M p l v
+  closest =
+      record {
+        nearest = λ w e. nearest w (beside M v w h (e ∙ sym (n .rem)));
+        upward = λ w e d. upward w d (beside M v w h (e ∙ sym (n .rem)));
+      }
+    where
+      nearest : (w : ℤ) → Beside M v w → natAbs (v -ℤ p) ≤ natAbs (w -ℤ p)
+      nearest w (it e) = let d = ap (λ (z : ℤ). natAbs (z -ℤ p)) e in omega (arith, d)
+      nearest w (over a) = omega (arith, over-farther w a)
+      nearest w (under a) = under-far w a
+
+      upward : (w : ℤ) → natAbs (w -ℤ p) ≡ natAbs (v -ℤ p) → Beside M v w → w ≤ℤ v
+      upward w d (it e) = to-le w v (omega (arith, of-eq w v e))
+      upward w d (over a) = absurd (omega (arith, d, over-farther w a))
+      upward w d (under a) = to-le w v (omega arith)
+
+pub pow-even : (k : ℕ) → 0 < k → 2 ^ k % 2 ≡ 0
 pow-even (suc k) h = ap (λ (x : ℕ). x % 2) (pow-suc 2 k) ∙ mul-mod-left (2 ^ k) 2
 
 -- for every k at once
-pub poc-rule : (k q l : ℕ) (Q t : ℤ) → 4 ≤ k → Q ≡ t *ℤ pos (2 ^ k) → q < 2 ^ k → l < 2 ^ k
-    → Nearest (2 ^ k) (Q +ℤ pos q) l (pocOf (2 ^ k) (Tid0 q Q) l) × ((v : ℤ) → Nearest (2 ^ k) (Q +ℤ pos q) l v → v ≡ pocOf (2 ^ k) (Tid0 q Q) l)
+pub poc-rule : (k q l : ℕ) (Q t : ℤ) → 4 ≤ k → Q ≡ t *ℤ pos (2 ^ k) → q < 2 ^ k → l < 2 ^ k → TheOnly (2 ^ k) (Q +ℤ pos q) l (pocOf (2 ^ k) (Tid0 q Q) l)
 poc-rule k q l Q t hk e hq hl =
     let n = poc-near (2 ^ k) q l Q t e hq hl (pow-even k (omega arith)) in
-    (n, λ v m. near-one (2 ^ k) l (Q +ℤ pos q) v (pocOf (2 ^ k) (Tid0 q Q) l) (pow-pos k) m n)
+    record {
+      is = n;
+      alone = λ w m. near-one (2 ^ k) l (Q +ℤ pos q) w (pocOf (2 ^ k) (Tid0 q Q) l) (pow-pos k) m n;
+      closest = closest (2 ^ k) l (Q +ℤ pos q) (pocOf (2 ^ k) (Tid0 q Q) l) (pow-pos k) n;
+    }

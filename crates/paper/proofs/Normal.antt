@@ -48,7 +48,7 @@ unfolding finished
 finished-counts l ps c a =
     all-while Counts (λ n p h. h) (due false l) (map raised ps ++ (stored c ∷ [])) (all-append Counts (map raised ps) (stored c ∷ []) (all-map Counts Counts raised raised-counts ps a) (zero-le, tt))
 
-in-range : (l : Limits) → configureRanges l ≡ true → l .k ≤ 16
+pub in-range : (l : Limits) → configureRanges l ≡ true → l .k ≤ 16
 unfolding configureRanges
 in-range l e = leb-true (l .k) 16 (second (leb 4 (l .k)) (leb (l .k) 16) _ _ _ _ e)
   where

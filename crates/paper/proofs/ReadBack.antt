@@ -197,13 +197,13 @@ module _ (x : Sets) (rest : List ℕ) where
       five-sets p q o r t = λ i. record { before = p i; after = q i; foll = o i; ltCurr = r i; ltFoll = t i }
 
 -- four flags in a byte
-record Flags (n : ℕ) (a b c d : Bool) : Type 0 where
-  is0 : bit 0 n ≡ a
-  is1 : bit 1 n ≡ b
-  is2 : bit 2 n ≡ c
-  is3 : bit 3 n ≡ d
+pub record Flags (n : ℕ) (a b c d : Bool) : Type 0 where
+  pub is0 : bit 0 n ≡ a
+  pub is1 : bit 1 n ≡ b
+  pub is2 : bit 2 n ≡ c
+  pub is3 : bit 3 n ≡ d
 
-flags-back : (a b c d : Bool) → Flags (flagAt 0 a + flagAt 1 b + flagAt 2 c + flagAt 3 d) a b c d
+pub flags-back : (a b c d : Bool) → Flags (flagAt 0 a + flagAt 1 b + flagAt 2 c + flagAt 3 d) a b c d
 unfolding bit
 flags-back true true true true = record { is0 = refl; is1 = refl; is2 = refl; is3 = refl }
 flags-back true true true false = record { is0 = refl; is1 = refl; is2 = refl; is3 = refl }

@@ -169,6 +169,9 @@ abbrev pub fiveCounts : List ℕ → ℕ → ℕ
 fiveCounts bs at = u8 bs at + u8 bs (at + 1) + u8 bs (at + 2) + u8 bs (at + 3) + u8 bs (at + 4)
 
 -- these places in the whole reply
+abbrev pub pocPlace : ℕ
+pocPlace = restPlace
+
 abbrev pub flagsPlace : ℕ
 flagsPlace = restPlace + begunFlags
 

@@ -20,5 +20,6 @@ pub mod Ledger
 pub mod WholeReply
 pub mod Accounts
 pub mod Statement
+pub mod OneLine
 pub mod Watch
 pub mod Blame

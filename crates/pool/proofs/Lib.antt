@@ -19,3 +19,4 @@ pub mod Begun
 pub mod GivenAgain
 pub mod Following
 pub mod Item10
+pub mod OneLine

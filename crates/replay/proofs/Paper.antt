@@ -1,6 +1,6 @@
 -- Demand 3 of the program's own bytes: from memory that `fresh` made, whatever the reads of its turns brought, the
 -- blocks that the turns made are the paper's replies to the whole records in it; as cut by their heads these exchanges
--- keep demand 3, and a ledger over them finds nothing broken.
+-- keep demand 3, POC is as document 02, Item 12 says, and a ledger over them finds nothing broken.
 use Prim.Native.Nat.{ℕ, suc, _+_}
 use mathlib.Core.Path.{_≡_, refl, sym, ap, ap₂, subst, _∙_}
 use mathlib.Core.List.{List, [], _∷_, _++_, map, append-nil}
@@ -13,16 +13,18 @@ use Rattle.paper.specs.Words.{allB}
 use Rattle.paper.specs.Records.{lengthOf}
 use Rattle.paper.specs.State.{fresh}
 use Rattle.paper.specs.State as P
-use Rattle.paper.specs.Step.{Call, stepOf, replies, sessionAfter, answeredOf}
+use Rattle.paper.specs.Step.{Call, stepOf, replies, sessionAfter, afterCalls, answeredOf}
 use Rattle.paper.specs.declared.Reading.{Reading}
 use Rattle.paper.specs.Reading.{opening, further}
 use Rattle.paper.specs.Ledger.{Exchange, blank, told}
 use Rattle.paper.specs.Statement.{Bytes, Kept, Statement, exchanges, ledgerOf}
+use Rattle.paper.specs.OneLine.{Item12}
 use Rattle.paper.specs.Watch.{watched, pairs}
 use Rattle.paper.proofs.Bools.{both}
 use Rattle.paper.proofs.Rooms.{any-room}
 use Rattle.paper.proofs.Refusals.{head-says}
 use Rattle.paper.proofs.Demand.{demand}
+use Rattle.paper.proofs.OneLine.{item-12}
 use Rattle.paper.proofs.Unbroken.{watched-fresh}
 use Rattle.format.specs.Cut.{Parts, sizeOf, joined, isWhole, cut, restOf}
 use Rattle.format.proofs.Cutting.{parts-none, front-cut, one-cut, all-parts, all-joined}
@@ -118,6 +120,15 @@ module _ (s : Stand P.Session) (t : Serves sessions fresh s) where
   pub replay-replies : sizeOf (waiting s) ≡ 0 → W ≡ joined (replies fresh (cut R))
   replay-replies n = replied ∙ ap (λ (l : List (List ℕ)). joined (replies fresh l)) (sym (all-taken n))
 
+  reached : afterCalls fresh (roomy rs) ≡ s .state
+  reached = any-room fresh (roomy rs) ∙ ap (sessionAfter fresh) (all-answered rs) ∙ sym (t .state ∙ after-is fresh rs)
+
+  -- DOCUMENT 02, ITEM 12, OF WHAT WAS READ AND WHAT WAS MADE, both cut by their heads
+  pub replay-one-line : Item12 (pairs opening (cut R) (cut W)) (s .state)
+  replay-one-line =
+      subst (λ (xs : List Exchange). Item12 xs (s .state)) (ap (exchanges opening fresh) (all-answered rs) ∙ sym heard)
+      (subst (Item12 (exchanges opening fresh (answeredOf (roomy rs)))) reached (item-12 (roomy rs)))
+
   -- what is read are bytes: `brought-bytes` of filter has it of the lent buffers
   module _ (bytes : allB (λ (b : ℕ). ltb b 256) R ≡ true) where
     records-bytes : Bytes rs
@@ -129,7 +140,7 @@ module _ (s : Stand P.Session) (t : Serves sessions fresh s) where
         let d = stated rs records-bytes in
         record {
           kept = subst Kept (sym heard) (d .kept);
-          true-to = ap (told blank) heard ∙ d .true-to ∙ ap ledgerOf (any-room fresh (roomy rs) ∙ ap (sessionAfter fresh) (all-answered rs) ∙ sym (t .state ∙ after-is fresh rs));
+          true-to = ap (told blank) heard ∙ d .true-to ∙ ap ledgerOf reached;
           done = ap (λ (p : Parts). p .rest) parts-made;
           even = λ n. ap length (all-taken n) ∙ as-many fresh rs ∙ ap length (sym cut-made);
         }

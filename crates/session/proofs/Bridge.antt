@@ -1,7 +1,7 @@
 -- Read this first. What is proved of the code: any two results that the contract of `step` permits are equal in the
 -- answer, in the buffer and in the session that the memory is, and, from memory in normal form, in every word; a run of
--- calls views as the paper's run; so demand 3, what a refusal leaves and writes, and the invariants of all sessions
--- hold of the code.
+-- calls views as the paper's run; so demand 3, POC in one line, what a refusal leaves and writes, and the invariants of
+-- all sessions hold of the code.
 use Prim.Native.Nat.{ℕ, _≤_, _<_}
 use mathlib.Core.Path.{_≡_, refl, sym, ap, ap₂, _∙_, subst}
 use mathlib.Core.List.{List, [], _∷_, _++_}
@@ -18,8 +18,9 @@ use Rattle.paper.specs.State as P
 use Rattle.paper.specs.Step.{Result, stepOf, sessionAfter, afterCalls, answeredOf}
 use Rattle.paper.specs.declared.Reading.{Reading}
 use Rattle.paper.specs.Reading.{opening, further}
-use Rattle.paper.specs.Ledger.{blank, told}
+use Rattle.paper.specs.Ledger.{Exchange, blank, told}
 use Rattle.paper.specs.Statement.{Bytes, Kept, exchanges, ledgerOf}
+use Rattle.paper.specs.OneLine.{Item12}
 use Rattle.paper.proofs.Bools.{split, both, left, right}
 use Rattle.paper.proofs.Rooms.{large-room, nothing-written, any-room}
 use Rattle.paper.proofs.Refusals.{refusalKind, refused-writes}
@@ -27,6 +28,7 @@ use Rattle.paper.proofs.Normal.{Bounded, bounded-after, reached-normal}
 use Rattle.paper.proofs.Calm.{Quiet, calm-between}
 use Rattle.paper.proofs.InStep.{InStep, in-step-after}
 use Rattle.paper.proofs.Demand.{demand}
+use Rattle.paper.proofs.OneLine.{item-12}
 use Rattle.store.specs.StoreWords.{word}
 use Rattle.session.specs.declared.Answer.{Answer}
 use Rattle.session.specs.View.{Memory, sessionIn}
@@ -159,6 +161,11 @@ module _ (m : Memory) (start : sessionIn m ≡ fresh) (xs : List Called) (m′ :
   code-demand b =
       let d = demand (callsOf xs) (answered-bytes xs b) in
       record { kept = subst Kept (sym code-heard) (d .kept); true-to = ap (told blank) code-heard ∙ d .true-to ∙ ap ledgerOf (sym comes-to) }
+
+  -- DOCUMENT 02, ITEM 12 OF THE CODE'S OWN BYTES: the POC in what is heard of an accepted begin is the one that the rule
+  -- gives, and what is noted of the exchanges is of the session that the memory then is
+  pub code-one-line : Item12 (heardIn opening xs) (sessionIn m′)
+  code-one-line = subst (λ (ys : List Exchange). Item12 ys (sessionIn m′)) (sym code-heard) (subst (Item12 (exchanges opening fresh rs)) (sym comes-to) (item-12 (callsOf xs)))
 
   -- stored ≤ capacity ≤ 16, k ≤ 16, counts; its own normal form; waiting ≤ reorder; the previous MSB a multiple of M
   pub code-bounded : Bounded (sessionIn m′)
