@@ -12,12 +12,12 @@ use Rattle.paper.specs.Numbers.{u8, u16}
 use Rattle.paper.specs.Kinds.{configureKind, beginKind, kPlace, numberPlace}
 use Rattle.paper.specs.Records.{kindOf}
 use Rattle.paper.specs.Ledger.{Exchange}
-use Rattle.paper.specs.OneLine.{accepts, validIn, Notes, empty, previousAfter, finishes, givesUp, moves, noted, notes, LastConfigure, Finished, LastFinished}
+use Rattle.paper.specs.OneLine.{accepts, validIn, Notes, empty, previousAfter, finishes, givesUp, moves, noted, notes, LastConfigure, Finished, LastFinished, LastIs}
 use Rattle.paper.proofs.Bools.{left, right, split, not-both, by-case}
 
 -- ---- tests that failed
 
-or-none : (a b : Bool) → (a || b) ≡ false → (a ≡ false) × (b ≡ false)
+pub or-none : (a b : Bool) → (a || b) ≡ false → (a ≡ false) × (b ≡ false)
 or-none true b e = not-both true refl e
 or-none false b e = (refl, e)
 
@@ -26,7 +26,7 @@ unfolding anyB
 none-more f [] x a e = rw e
 none-more f (y ∷ ys) x a e = let t = or-none (f y) (anyB f ys) a in rw (t .0) (none-more f ys x (t .1) e)
 
-none-parts : {A : Type 0} (f : A → Bool) (xs ys : List A) → anyB f (xs ++ ys) ≡ false → (anyB f xs ≡ false) × (anyB f ys ≡ false)
+pub none-parts : {A : Type 0} (f : A → Bool) (xs ys : List A) → anyB f (xs ++ ys) ≡ false → (anyB f xs ≡ false) × (anyB f ys ≡ false)
 unfolding anyB
 none-parts f [] ys e = (refl, e)
 none-parts f (x ∷ xs) ys e = let t = or-none (f x) (anyB f (xs ++ ys)) e in let u = none-parts f xs ys (t .1) in (rw (t .0) (u .0), u .1)
@@ -78,7 +78,7 @@ width-one n x e =
     let same : Notes → Type 0 = λ (m : Notes). m .k ≡ n .k in
     rw e (by-case same (accepts beginKind x) _ _ (λ _. refl) (λ _. by-case same (finishes x) _ _ (λ _. refl) (λ _. by-case same (givesUp x) _ _ (λ _. refl) (λ _. refl))))
 
-same-width : (n : Notes) (ls : List Exchange) → anyB (accepts configureKind) ls ≡ false → notes n ls .k ≡ n .k
+pub same-width : (n : Notes) (ls : List Exchange) → anyB (accepts configureKind) ls ≡ false → notes n ls .k ≡ n .k
 unfolding anyB notes
 same-width n [] e = refl
 same-width n (x ∷ ls) e = let t = or-none (accepts configureKind x) _ e in same-width (noted n x) ls (t .1) ∙ width-one n x (t .0)
@@ -107,7 +107,7 @@ Opened w none = Unit {0}
 Opened w (some c) = OpenIn w c
 
 abbrev NoneFinished : List Exchange → Type 0
-NoneFinished ls = (y : Exchange) (behind : List Exchange) → Finished ls y behind → ⊥
+NoneFinished ls = LastIs ls none
 
 module _ (n : Notes) (w ls : List Exchange) (x : Exchange) (f : NoneFinished (w ++ (x ∷ ls))) where
   finish-leaves : (o : Option Exchange) (p : Option Exchange) → Opened w o → finishes x ≡ true → previousAfter o p ≡ p
@@ -201,10 +201,7 @@ module _ (xs ls : List Exchange) (c : Exchange) (l : LastConfigure xs c ls) wher
   pub width-told : notes empty xs .k ≡ u8 (c .said) kPlace
   width-told = ap (λ (m : Notes). m .k) since ∙ same-width (configured c) ls (l .last)
 
-  -- where no valid picture was finished since then, there is no previous Tid0 picture
-  pub none-told : NoneFinished ls → notes empty xs .previous ≡ none
-  none-told f = ap (λ (m : Notes). m .previous) since ∙ previous-stays (configured c) [] ls (l .last) f tt
-
-  -- the last one that was is it
-  pub last-told : (y : Exchange) → LastFinished ls y → notes empty xs .previous ≡ some y
-  last-told y t = ap (λ (m : Notes). m .previous) since ∙ becomes (t .finished) (l .last) (configured c) (t .last)
+  -- the previous Tid0 picture is the last valid one that was finished since then, or none where none was
+  pub previous-told : (p : Option Exchange) → LastIs ls p → notes empty xs .previous ≡ p
+  previous-told none f = ap (λ (m : Notes). m .previous) since ∙ previous-stays (configured c) [] ls (l .last) f tt
+  previous-told (some y) t = ap (λ (m : Notes). m .previous) since ∙ becomes (t .finished) (l .last) (configured c) (t .last)

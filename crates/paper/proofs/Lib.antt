@@ -34,6 +34,7 @@ pub mod Unbroken
 pub mod Demand
 pub mod Refusals
 pub mod InWords
+mod Covered
 pub mod OneLine
 pub mod PocExamples
 pub mod Cases

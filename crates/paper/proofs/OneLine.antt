@@ -41,7 +41,8 @@ use Rattle.paper.proofs.ReadBack.{two-back, four-back, flags-back}
 use Rattle.paper.proofs.Ways.{Accepted, yes-of, begun, by-ways}
 use Rattle.paper.proofs.Nearest.{sum-near, pow-even}
 use Rattle.paper.proofs.InStep.{InStep, PrevOk, lsb-below, in-step, in-step-fresh, poc-in-one-line}
-use Rattle.paper.proofs.InWords.{notes-append, width-told, none-told, last-told}
+use Rattle.paper.proofs.InWords.{notes-append, width-told, previous-told}
+use Rattle.paper.proofs.Covered.{since-any}
 use Rattle.paper.proofs.Normal.{in-range}
 use Rattle.paper.proofs.Rooms.{any-room}
 
@@ -168,6 +169,7 @@ module _ (n : Notes) (s : Session) (r : List ℕ) (st : Reading) (a : Agree n s)
 record TrueAt (n : Notes) (x : Exchange) : Type 0 where
   near : (y : Exchange) → startsOverIn x ≡ false → n .previous ≡ some y → TheOnly (modulusIn n) (pocIn y) (lsbIn x) (pocIn x)
   sum : pocIn x ≡ pocAfter (modulusIn n) (n .previous) x
+  even : modulusIn n % 2 ≡ 0
 
 -- "MSB 0 for IRAP with NoRaslOutputFlag or no previous Tid0 picture"
 poc-over : (s : Session) (f : Fields) → startsOver s f ≡ true → poc s f ≡ pos (f .lsb)
@@ -197,22 +199,22 @@ module _ (n : Notes) (s : Session) (r : List ℕ) (st : Reading) (a : Agree n s)
         let t = poc-in-one-line s f (lsbIn y) (msbIn y) i z (sym (says .over-is) ∙ o) (previous-prev y e) in
         rw (a .width, says .lsb-is, says .poc-is) (subst (λ (p : ℤ). TheOnly (modulus (s .limits)) p (f .lsb) (poc s f)) (minus-plus (pocIn y) (lsbIn y)) t)
 
+    even-begin : modulusIn n % 2 ≡ 0
+    even-begin = rw (a .width) (pow-even (min (s .limits .k) 16) (omega (arith, i .wide (yes-of (s .configured) (z .configured)))))
+
     sum-begin : (p : Option Exchange) → n .previous ≡ p → pocIn x ≡ pocAfter (modulusIn n) p x
     unfolding pocAfter
     sum-begin none e = says .poc-is ∙ poc-first s f (sym (a .prev) ∙ ap prevIn e) ∙ ap pos (sym (says .lsb-is))
     sum-begin (some y) e =
         split (startsOverIn x)
         (λ o. rw o (says .poc-is ∙ poc-over s f (sym (says .over-is) ∙ o) ∙ ap pos (sym (says .lsb-is))))
-        (λ o. rw o (sym (near-begin y o e .alone _ (sum-near (modulusIn n) (lsbIn x) (pocIn y) below even))))
+        (λ o. rw o (sym (near-begin y o e .alone _ (sum-near (modulusIn n) (lsbIn x) (pocIn y) below even-begin))))
       where
         below : lsbIn x < modulusIn n
         below = rw (a .width, says .lsb-is) (lsb-below (modulus (s .limits)) f (z .ranges))
 
-        even : modulusIn n % 2 ≡ 0
-        even = rw (a .width) (pow-even (min (s .limits .k) 16) (omega (arith, i .wide (yes-of (s .configured) (z .configured)))))
-
     true-begin : TrueAt n x
-    true-begin = record { near = near-begin; sum = sum-begin (n .previous) refl }
+    true-begin = record { near = near-begin; sum = sum-begin (n .previous) refl; even = even-begin }
 
   record Truly (d : Decided) : Type 0 where
     true-at : accepts beginKind (heardOf st r d) ≡ true → TrueAt n (heardOf st r d)
@@ -339,20 +341,22 @@ module _ (xs : List Exchange) (t : Session) (told : Told empty xs t) where
     unfolding pocAfter
     in-words-here c since l =
         record {
-          near = λ y o f. subst (λ (k : ℕ). TheOnly (2 ^ k) (pocIn y) (lsbIn x) (pocIn x)) (width-told bs since c l) (true-here .near y o (last-told bs since c l y f));
+          near = λ y o f. subst (λ (k : ℕ). TheOnly (2 ^ k) (pocIn y) (lsbIn x) (pocIn x)) (width-told bs since c l) (true-here .near y o (previous-told bs since c l (some y) f));
           over = λ o. true-here .sum ∙ over-lsb (modulusIn (notes empty bs)) (notes empty bs .previous) x o;
-          first = λ f. true-here .sum ∙ ap (λ (p : Option Exchange). pocAfter (modulusIn (notes empty bs)) p x) (none-told bs since c l f);
+          first = λ f. true-here .sum ∙ ap (λ (p : Option Exchange). pocAfter (modulusIn (notes empty bs)) p x) (previous-told bs since c l none f);
         }
 
   pub item-told : Item12 xs t
   item-told =
       record {
         in-words = λ bs ls since x c e b l. in-words-here bs ls x e b c since l;
+        covered = λ bs ls x e b. since-any bs (true-here bs ls x e b .even);
         one-line = λ bs ls x y e b o p. true-here bs ls x e b .near y o p;
         computed = λ bs ls x e b. true-here bs ls x e b .sum;
         multiple = λ bs ls y e p. here bs ls e .multiple y p;
         same-modulus = told .ready .agree .width;
         same-previous = told .ready .agree .prev;
+        same-in-words = λ c since p l f. (ap (λ (k : ℕ). 2 ^ k) (sym (width-told xs since c l)) ∙ told .ready .agree .width, ap prevIn (sym (previous-told xs since c l p f)) ∙ told .ready .agree .prev);
       }
 
 -- DOCUMENT 02, ITEM 12: from a fresh session, after any calls with any buffers, refused ones too

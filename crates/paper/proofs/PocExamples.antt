@@ -16,9 +16,11 @@ use Rattle.paper.specs.Replies.{framed}
 use Rattle.paper.specs.Ledger.{Exchange, none}
 use Rattle.paper.specs.Poc.{eqZ}
 use Rattle.paper.specs.Nearest.{Multiple}
-use Rattle.paper.specs.OneLine.{accepts, pocIn, Notes, empty, modulusIn, previousAfter, noted, notes, LastConfigure, Finished, LastFinished, InWords, OneLine, pocAfter, Computed, MsbMultiple, Item12}
+use Rattle.paper.specs.OneLine.{accepts, pocIn, Notes, empty, modulusIn, previousAfter, noted, notes, LastConfigure, Finished, LastFinished, Since, InWords, Covered, OneLine, pocAfter, Computed, MsbMultiple, Item12}
 use Rattle.paper.proofs.Bools.{not-both}
 use Rattle.paper.proofs.Broken.{call, _and_}
+use Rattle.paper.proofs.InWords.{or-none, none-parts}
+use Rattle.paper.proofs.Covered.{no-cons}
 use Rattle.paper.proofs.Every.{All, all-more}
 use Rattle.paper.proofs.Whole.{up-mul, dn-mul, up-pos, dn-pos, of-eq}
 
@@ -89,12 +91,14 @@ pub data Sentence : Type 0 where
   one-line : Sentence
   computed : Sentence
   multiple : Sentence
+  covered : Sentence
 
 abbrev pub says : Sentence → List Exchange → Type 0
 says in-words xs = InWords xs
 says one-line xs = OneLine xs
 says computed xs = Computed xs
 says multiple xs = MsbMultiple xs
+says covered xs = Covered xs
 
 pub record Break : Type 0 where
   pub sentence : Sentence
@@ -134,6 +138,9 @@ broken =
     ∷ computed is-broken-by after0 (answering 0 16 9 (negsuc 6) 7 ∷ [])
     -- a picture of lsb 0 and POC 5
     ∷ multiple is-broken-by (configuring 4 ∷ answering 0 19 0 (pos 5) 7 ∷ finish ∷ [])
+    -- a begin that is accepted with no configure before it, or only a refused one
+    ∷ covered is-broken-by (idr ∷ [])
+    ∷ covered is-broken-by (refusedFive ∷ idr ∷ [])
     ∷ []
 
 -- a negative number is not 9, and 5 is no multiple of 16
@@ -144,11 +151,6 @@ no-multiple : Multiple 16 (pos 5) → ⊥
 no-multiple m = omega (arith, of-eq (pos 5) (m .times *ℤ pos 16) (m .is), up-mul (m .times) 16, dn-mul (m .times) 16, up-pos 5, dn-pos 5)
 
 -- nothing is finished in no exchanges; the IDR is in the first two behind a configure
-no-cons : (bs ls : List Exchange) (z : Exchange) → [] ≡ bs ++ (z ∷ ls) → ⊥
-unfolding none
-no-cons [] ls z e = not-both (none (z ∷ ls)) (ap none (sym e)) refl
-no-cons (b ∷ bs) ls z e = not-both (none (b ∷ (bs ++ (z ∷ ls)))) (ap none (sym e)) refl
-
 none-in : (z : Exchange) (more : List Exchange) → Finished [] z more → ⊥
 none-in z more f = no-cons (f .before) _ z (f .parts)
 
@@ -158,6 +160,13 @@ idr-finished = record { behind = []; finished = record { before = []; during = [
 
 behind-configure : (bs : List Exchange) (c : Exchange) (ls : List Exchange) → accepts configureKind c ≡ true → anyB (accepts configureKind) ls ≡ false → LastConfigure (bs ++ (c ∷ ls)) c ls
 behind-configure bs c ls a l = record { before = bs; parts = refl; accepted = a; last = l }
+
+no-configure : (bs : List Exchange) → anyB (accepts configureKind) bs ≡ false → Since bs → ⊥
+unfolding anyB
+no-configure bs e s =
+    let l = s .configured in
+    let t = none-parts (accepts configureKind) (l .before) (s .configure ∷ s .since) (rw (l .parts) at e) in
+    not-both (accepts configureKind (s .configure)) (l .accepted) (or-none (accepts configureKind (s .configure)) _ (t .1) .0)
 
 -- NO SENTENCE HOLDS OF THE EXCHANGES UNDER IT
 pub all-broken : All (λ (k : Break). says (k .sentence) (k .exchanges) → ⊥) broken
@@ -178,6 +187,8 @@ all-broken =
     and (λ k. below-nine 6 (k (after0 []) [] (idr ∷ finish ∷ []) (answering 0 16 9 (negsuc 6) 7) (configuring 4) refl refl (behind-configure [] (configuring 4) (idr ∷ finish ∷ []) refl refl) .over refl))
     and (λ k. below-nine 6 (k (after0 []) [] (answering 0 16 9 (negsuc 6) 7) refl refl))
     and (λ k. no-multiple (k (configuring 4 ∷ answering 0 19 0 (pos 5) 7 ∷ finish ∷ []) [] (answering 0 19 0 (pos 5) 7) refl refl))
+    and (λ k. no-configure [] refl (k [] [] idr refl refl))
+    and (λ k. no-configure (refusedFive ∷ []) refl (k (refusedFive ∷ []) [] idr refl refl))
     and tt
 
 -- NONE OF THEM IS AS ITEM 12 SAYS, whatever the session
@@ -189,3 +200,4 @@ none-so = all-more (λ (k : Break). says (k .sentence) (k .exchanges) → ⊥) (
     item-says one-line xs s k = k .one-line
     item-says computed xs s k = k .computed
     item-says multiple xs s k = k .multiple
+    item-says covered xs s k = k .covered

@@ -115,6 +115,19 @@ pub record LastFinished (ls : List Exchange) (y : Exchange) : Type 0 where
   pub finished : Finished ls y behind
   pub last : (z : Exchange) (more : List Exchange) → Finished behind z more → ⊥
 
+-- that one, or that there is none
+abbrev pub LastIs : List Exchange → Option Exchange → Type 0
+LastIs ls none = (y : Exchange) (behind : List Exchange) → Finished ls y behind → ⊥
+LastIs ls (some y) = LastFinished ls y
+
+-- a last accepted configure of xs, and the last valid picture finished since then or none: they are there
+pub record Since (xs : List Exchange) : Type 0 where
+  pub configure : Exchange
+  pub since : List Exchange
+  pub configured : LastConfigure xs configure since
+  pub previous : Option Exchange
+  pub last : LastIs since previous
+
 -- ITEM 12 of some exchanges
 
 -- x is an accepted begin, c the last accepted configure in front of it, and `since` what lies between them. If x is not
@@ -124,12 +137,17 @@ pub record InWordsAt (c x : Exchange) (since : List Exchange) : Type 0 where
   pub near : (y : Exchange) → startsOverIn x ≡ false → LastFinished since y
       → TheOnly (2 ^ u8 (c .said) kPlace) (pocIn y) (lsbIn x) (pocIn x)
   pub over : startsOverIn x ≡ true → pocIn x ≡ pos (lsbIn x)
-  pub first : ((y : Exchange) (behind : List Exchange) → Finished since y behind → ⊥) → pocIn x ≡ pos (lsbIn x)
+  pub first : LastIs since none → pocIn x ≡ pos (lsbIn x)
 
 abbrev pub InWords : List Exchange → Type 0
 InWords xs =
     (bs ls since : List Exchange) (x c : Exchange) → xs ≡ bs ++ (x ∷ ls) → accepts beginKind x ≡ true
     → LastConfigure bs c since → InWordsAt c x since
+
+-- and that says something of every accepted begin: a configure was accepted in front of it, and since then a valid
+-- picture was finished last, or none
+abbrev pub Covered : List Exchange → Type 0
+Covered xs = (bs ls : List Exchange) (x : Exchange) → xs ≡ bs ++ (x ∷ ls) → accepts beginKind x ≡ true → Since bs
 
 -- an accepted begin that is not IRAP with NoRaslOutputFlag and has a previous Tid0 picture, which y began as the notes
 -- have it: the same
@@ -165,9 +183,13 @@ prevIn (some y) = Tid0 (lsbIn y) (msbIn y)
 -- POC IN ONE LINE as one statement, of some exchanges and the session behind them
 pub record Item12 (xs : List Exchange) (s : Session) : Type 0 where
   pub in-words : InWords xs
+  pub covered : Covered xs
   pub one-line : OneLine xs
   pub computed : Computed xs
   pub multiple : MsbMultiple xs
   -- the notes are true: M and the previous Tid0 picture are the session's
   pub same-modulus : modulusIn (notes empty xs) ≡ modulus (s .limits)
   pub same-previous : prevIn (notes empty xs .previous) ≡ s .prev
+  -- and so they are in words
+  pub same-in-words : (c : Exchange) (since : List Exchange) (p : Option Exchange) → LastConfigure xs c since
+      → LastIs since p → (2 ^ u8 (c .said) kPlace ≡ modulus (s .limits)) × (prevIn p ≡ s .prev)
