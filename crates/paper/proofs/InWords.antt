@@ -39,8 +39,12 @@ other-kind a b x d e =
     let k : kindOf (x .said) ≡ a = eqb-true (kindOf (x .said)) a (right (eqb (u16 (x .answered) numberPlace) 0) _ e) in
     rw (left (eqb (u16 (x .answered) numberPlace) 0) _ e, k, d)
 
-finish-other : (b : ℕ) (x : Exchange) → eqb 4 b ≡ false → eqb 5 b ≡ false → finishes x ≡ true → accepts b x ≡ false
-finish-other b x d e f = split (accepts 4 x) (other-kind 4 b x d) (λ t. other-kind 5 b x e (rw t at f))
+-- what finishes a picture is not accepted as a kind that finishes none
+finish-other : (b : ℕ) (x : Exchange) → (eqb (u16 (x .answered) numberPlace) 0 ≡ true → kindOf (x .said) ≡ b → finishes x ≡ false) → finishes x ≡ true → accepts b x ≡ false
+finish-other b x h f =
+    split (accepts b x)
+    (λ t. not-both (finishes x) f (h (left _ _ t) (eqb-true (kindOf (x .said)) b (right (eqb (u16 (x .answered) numberPlace) 0) _ t))))
+    (λ t. t)
 
 abbrev configured : Exchange → Notes
 configured c = record { k = u8 (c .said) kPlace; current = none; previous = none }
@@ -55,7 +59,7 @@ noted-begin n x e = rw (other-kind beginKind configureKind x refl e, e)
 
 noted-finish : (n : Notes) (x : Exchange) → finishes x ≡ true → noted n x ≡ record { k = n .k; current = none; previous = previousAfter (n .current) (n .previous) }
 unfolding noted
-noted-finish n x e = rw (finish-other configureKind x refl refl e, finish-other beginKind x refl refl e, e)
+noted-finish n x e = rw (finish-other configureKind x (λ n k. rw (n, k)) e, finish-other beginKind x (λ n k. rw (n, k)) e, e)
 
 noted-other : (n : Notes) (x : Exchange) → accepts configureKind x ≡ false → moves x ≡ false → noted n x ≡ n
 unfolding noted
