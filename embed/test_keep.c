@@ -2,7 +2,8 @@
  * (NAME.calls) or of a pool (NAME.pool; calls.py has the form of both). One that is saved and loaded before each call
  * answers on as one that is not; every flipped bit of what several of them are kept as is found; so are a wrong length,
  * another layout and what is not in the normal form. And without keeping: a session in whose words a bit is flipped
- * still answers every call. The status is 1 where anything differs. */
+ * still answers every call, and one that holds a serial twice hands out each picture by itself. The status is 1 where
+ * anything differs. */
 #include "pool_calls.h"
 #include "trusshemp_wire.h"
 
@@ -284,6 +285,29 @@ static size_t flip_words(const trusshemp_session *session)
     return calls;
 }
 
+/* ---- words that no session reaches: one serial twice */
+
+/* Pictures 5, 5 and 6 wait, on surfaces 10, 11 and 12, the first two with POC 3 and the last with 2. A drain hands out
+ * each by itself, the lowest POC first and the earlier stored on a tie, and releases each surface. */
+static void one_serial_twice(void)
+{
+    static const uint32_t pictures[] = { 5, 10, 3, 1, 1, 0, 5, 11, 3, 1, 1, 0, 6, 12, 2, 1, 1, 0 };
+    static const uint8_t drain[] = { 0, 0, 5, 0 };
+    static const uint8_t asked[] = { 53, 0, 5, 1, 0, 0,
+                                     3, 6, 0, 0, 0, 12, 0, 0, 0, 2, 0, 0, 0,
+                                     5, 0, 0, 0, 10, 0, 0, 0, 3, 0, 0, 0, 5, 0, 0, 0, 11, 0, 0, 0, 3, 0, 0, 0,
+                                     0, 3, 12, 0, 0, 0, 10, 0, 0, 0, 11, 0, 0, 0 };
+    trusshemp_session session;
+    uint8_t reply[TRUSSHEMP_REPLY];
+    size_t length;
+    trusshemp_fresh(&session);
+    memcpy(session.store, pictures, sizeof pictures);
+    session.store[TRUSSHEMP_STORE_WORDS - 1] = 3;
+    trusshemp_step(&session, drain, sizeof drain, reply, sizeof reply, &length);
+    if (length != sizeof asked || memcmp(reply, asked, length))
+        fail("a drain of two pictures with one serial answers otherwise");
+}
+
 /* ---- all of it */
 
 static struct {
@@ -318,6 +342,7 @@ int main(int count, char **names)
         fail("the header is not the archive's");
     known_bytes();
     not_normal_pool();
+    one_serial_twice();
     for (int i = 1; i < count; i++)
         run_file(names[i]);
     if (seen[0].flipped < SEVERAL || seen[1].flipped < SEVERAL)

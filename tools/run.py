@@ -6,7 +6,8 @@
 
 A program is proved and built first where that is not yet done, which takes minutes, once; standard error says so, with
 a line for each crate that is proved and the name of the log. Two of one pipe wait for each other, and say so. An
-interrupted ./run ends what it started.
+interrupted ./run ends what it started. The environment variable TRUSSHEMP_SILENT is how many seconds a check or a wait
+may take before it is said, 3 where it is not set: for scripts that compare standard error.
 
 Status: 0 all went well, 2 an error was written to standard error. `ledger`: 0 kept, 1 broken. `compare`: 0 equal,
 1 different.

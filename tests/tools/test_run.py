@@ -2,8 +2,8 @@
 """`./run` with stand-ins for the kit and for the programs: what it says, what it waits for, how it ends. Status 1 at
 the first that is not so.
 
-Tried are help and version, wrong words, a check that is quick, takes long, fails or is interrupted, two at once, a
-symbolic link, what is missing, and the status of each program.
+Tried are help and version, wrong words, a check that is quick, takes long, fails or is interrupted, several at once,
+TRUSSHEMP_SILENT, a symbolic link, what is missing, and the status of each program.
 """
 import contextlib
 import os
@@ -22,6 +22,8 @@ from lib import prove, script, tried
 from lib.tried import Failed
 
 SECONDS = 60
+SILENT = "TRUSSHEMP_SILENT"
+LONG = "600"
 
 # stands for `rt check CRATE`: where the file SLOW is there it starts a process that would go on, and says its number
 RT = """#!/bin/sh
@@ -65,7 +67,8 @@ class House:
             self.program(crate.name, "true")
         self.script(self.kit / "bin" / "rt", RT)
         self.script(self.kit / "on" / platform.machine() / "toolchain" / "lib" / "ld-linux-x86-64.so.2", LOADER)
-        self.places = {"PATH": f"{self.kit / 'bin'}:{os.environ['PATH']}", "RATTLE_HOME": str(self.kit)}
+        # on a slow machine the stand-in too can take longer than usual
+        self.places = {"PATH": f"{self.kit / 'bin'}:{os.environ['PATH']}", "RATTLE_HOME": str(self.kit), SILENT: LONG}
 
     def script(self, path, text):
         path.parent.mkdir(parents=True, exist_ok=True)
@@ -76,8 +79,10 @@ class House:
         self.script(self.root / "target" / "bin" / crate, f"#!/bin/sh\n{text}\n")
 
     def start(self, *words, run=None, **ends):
+        """Started with `places` in its environment, but for those that are None."""
         ends = {"stdin": subprocess.DEVNULL, "stdout": subprocess.PIPE, "stderr": subprocess.PIPE} | ends
         places = os.environ | self.places | ends.pop("places", {})
+        places = {name: value for name, value in places.items() if value is not None}
         return subprocess.Popen([run or str(self.root / "run"), *words], env=places, cwd=self.root, text=True,
                                 preexec_fn=heeds_signals, **ends)
 
@@ -121,7 +126,7 @@ def helps(house):
     status, said, wrong = house.ended("--help")
     expect("--help", (status, wrong), (0, ""))
     names = ["compare", "ledger", "pool", "replay", "show"]
-    holds("--help", said, *names)
+    holds("--help", said, *names, SILENT, f"{prove.USUAL:g} where it is not set")
     version, kit = [(ROOT / name).read_text().strip() for name in ("VERSION", ".ci/kit")]
     expect("--version", house.ended("--version"), (0, f"trusshemp {version}, proved by {kit}\n", ""))
     for words in [[name, "--help"] for name in names] + [["ledger", "--pool", "--help"]]:
@@ -159,19 +164,49 @@ def quick(house):
     return "nothing is said; through a symbolic link too"
 
 
-def slow(house):
-    """A check that takes long says what it does; another ./run waits, and says for whom."""
+def at_once(house, *silences):
+    """Several at once, each with a TRUSSHEMP_SILENT or without: the first checks and the others wait for it, until all
+    but those with LONG have said so. What each says, for how long none does, and the first one's number."""
+    paths = [house.root / f"said.{place}" for place in range(len(silences))]
+    usual = [path for path, silence in zip(paths, silences) if silence != LONG]
+    runs, begun = [], time.monotonic()
     with house.having("slow"):
-        first = house.start("replay")
-        until("the check starts", (house.root / "child").exists)
-        second = house.start("show")
-        time.sleep(prove.SILENT + 0.5)
-    said = [run.communicate(timeout=SECONDS) for run in (first, second)]
-    expect("two at once", [run.returncode for run in (first, second)], [0, 0])
-    holds("the first", said[0][1], "./run: proves and builds replay", "target/run-replay.log", "paper is proved (5 s)")
-    holds("the second", said[1][1], f"./run: waits for ./run replay (process {first.pid}), which proves or checks")
+        for path, silence in zip(paths, silences):
+            with path.open("w") as file:
+                runs.append(house.start("show" if runs else "replay", stderr=file, places={SILENT: silence}))
+            until("the check starts", (house.root / "child").exists)
+        until("one says it", lambda: any("proves" in path.read_text() for path in paths))
+        quiet = time.monotonic() - begun
+        until("each says it", lambda: all("proves" in path.read_text() for path in usual))
+    for run in runs:
+        run.communicate(timeout=SECONDS)
+        expect("one of several at once", run.returncode, 0)
     (house.root / "child").unlink()
-    return "each step is said"
+    return [path.read_text() for path in paths], quiet, runs[0].pid
+
+
+def slow(house):
+    """A check that takes long says what it does; another ./run waits, and says for whom: after the usual time, or that
+    of TRUSSHEMP_SILENT."""
+    said, quiet, first = at_once(house, None, None, LONG)
+    expect("not before the usual time", quiet >= prove.USUAL, True)
+    holds("the first", said[0], "./run: proves and builds replay", "target/run-replay.log", "paper is proved (5 s)")
+    holds("the second", said[1], f"./run: waits for ./run replay (process {first}), which proves or checks")
+    expect("a wait that may take long", said[2], "")
+    said, quiet, first = at_once(house, LONG, "soon")
+    expect("not before the usual time, with no number", quiet >= prove.USUAL, True)
+    expect("a check that may take long", said[0], "./run: paper is proved (5 s)\n")
+    holds("no number", said[1], f"./run: waits for ./run replay (process {first}), which proves or checks")
+    return "each step is said, where it takes longer than it may"
+
+
+def settings(_):
+    """What TRUSSHEMP_SILENT may be, and the seconds that it gives."""
+    given = {"0.2": 0.2, "600": 600, " 7 ": 7, "inf": prove.LONGEST, "1e300": prove.LONGEST}
+    given |= dict.fromkeys(("", "soon", "3 s", "0", "-1", "-inf", "nan"), 3)
+    for setting, seconds in given.items():
+        expect(repr(setting), prove.silent(setting), seconds)
+    return f"{len(given)} values"
 
 
 def interrupted(house):
@@ -236,10 +271,13 @@ def statuses(house):
     return f"{len(ends)} ends"
 
 
+TESTS = [helps, wrong_words, quick, slow, settings, interrupted, failing, missing, statuses]
+
+
 def main():
     with tempfile.TemporaryDirectory() as folder:
         house = House(pathlib.Path(folder).resolve())
-        return tried.run("run", [helps, wrong_words, quick, slow, interrupted, failing, missing, statuses], house)
+        return tried.run("run", TESTS, house)
 
 
 if __name__ == "__main__":

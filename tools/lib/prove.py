@@ -14,10 +14,26 @@ import sys
 import time
 
 # a check that finds all proved takes a tenth of a second, and some more on a busy machine
-SILENT = 3.0
+USUAL = 3.0
+# a day: `select` takes no number as large as some settings, `inf` among them
+LONGEST = 86400.0
+# between two looks at a lock that another ./run has
+PAUSE = 0.03
 END = 5.0
 LAST = 20
 PROVED = re.compile(rb"rt: (\S+) proved \((\d+) s\)")
+
+
+def silent(setting):
+    """How many seconds nothing is said: the setting, or the usual ones where it is no positive number."""
+    try:
+        seconds = float(setting)
+    except ValueError:
+        return USUAL
+    return min(seconds, LONGEST) if seconds > 0 else USUAL
+
+
+SILENT = silent(os.environ.get("TRUSSHEMP_SILENT", ""))
 
 
 def say(words):
@@ -57,7 +73,7 @@ def locked(path, name):
             say(f"waits for {file.read().strip() or 'another ./run'}, which proves or checks")
             fcntl.flock(file, fcntl.LOCK_EX)
             break
-        time.sleep(SILENT / 100)
+        time.sleep(PAUSE)
     file.truncate(0)
     print(f"./run {name} (process {os.getpid()})", file=file, flush=True)
     return file
@@ -88,7 +104,7 @@ def end_with(child):
 
 def follow(child, log, started):
     """Writes what the check says to the log, and a line for each crate that it proves. `started` is called once, where
-    the check takes longer than one that finds all proved."""
+    the check takes longer than SILENT."""
     begun, rest = time.monotonic(), b""
     while True:
         wait = None if started is None else max(0, SILENT - (time.monotonic() - begun))

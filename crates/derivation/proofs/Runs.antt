@@ -159,7 +159,12 @@ table-get f (suc n) i d lt =
     let x : i < n = leb-false n i e in
     List·getD-append (table f n) (f n ∷ []) d i (omega arith) ∙ table-get f n i d x)
 
--- the first elements of a list, each through g, one by one
+-- the first elements of a list, one by one; and each through g
+pub table-is : {A : Type 0} (d : A) (f : ℕ → A) (xs : List A) (n : ℕ) → n ≤ length xs → ((i : ℕ) → i < n → f i ≡ getD xs i d) → table f n ≡ take n xs
+unfolding table
+table-is d f xs zero le h = refl
+table-is d f xs (suc n) le h = rw (table-is d f xs n (omega arith) (λ i l. h i (omega arith)), h n (omega arith)) (sym (take-suc xs n d (omega arith)))
+
 pub table-front : {A B : Type 0} (g : A → B) (d : A) (l : List A) (n : ℕ) → n ≤ length l → table (λ (j : ℕ). g (getD l j d)) n ≡ map g (take n l)
 unfolding table
 table-front g d l zero h = refl

@@ -1,13 +1,13 @@
 -- A session laid out in memory is read back, for each number stands in a word of its own that is wide enough for it.
 -- Assumes nothing.
 use Prim.Native.Nat.{ℕ, zero, suc, _+_, _*_, _-_, _≤_, _<_, min}
-use mathlib.Core.Path.{_≡_, refl, sym, ap, _∙_}
+use mathlib.Core.Path.{_≡_, refl, ap, _∙_}
 use mathlib.Core.Bool.{false}
 use mathlib.Core.List.{List, [], _∷_, _++_, append-assoc}
 use native.Mathlib.Omega.{arith}
 use native.Mathlib.Nat.{mod-eq-of-lt}
-use lib.ListN.{length, getD, take, replicate, length-append, length-map, length-replicate, List·getD-append, List·getD-map}
-use lib.Seq.{take-suc, take-length, getD-append-add}
+use lib.ListN.{length, getD, replicate, length-append, length-map, length-replicate, List·getD-append, List·getD-map}
+use lib.Seq.{take-length, getD-append-add}
 use lib.IntN.{pos}
 use mir.Syntax.{w32}
 use mir.Val.{SFits}
@@ -26,7 +26,7 @@ use Rattle.paper.specs.declared.Now.{Now}
 use Rattle.paper.specs.declared.Now.the-variants as Now
 use Rattle.derivation.specs.declared.ref_lists.Refs.{Refs}
 use Rattle.derivation.specs.Lists.{refsIn}
-use Rattle.derivation.proofs.Runs.{refs-are}
+use Rattle.derivation.proofs.Runs.{refs-are, table-is}
 use Rattle.wire.proofs.Flat.{length-flat}
 use Rattle.store.specs.StoreWords.{word, pictureAt, pictureWords, stored}
 use Rattle.store.proofs.StoreWords.{flag-back, own-words}
@@ -35,11 +35,6 @@ use Rattle.embed.specs.Layout.{filled, storeWordsOf, setsOf, memoryOf, L
 use Rattle.session.specs.Laid.{limitsWords, prevWords, nowWords, sizeWords, frontWords, sizesOf, frontOf, frontWordsOf}
 
 -- ---- lists by their elements
-
-table-is : {A : Type 0} (d : A) (f : ℕ → A) (xs : List A) (n : ℕ) → n ≤ length xs → ((i : ℕ) → i < n → f i ≡ getD xs i d) → table f n ≡ take n xs
-unfolding table
-table-is d f xs zero le h = refl
-table-is d f xs (suc n) le h = rw (table-is d f xs n (omega arith) (λ i l. h i (omega arith)), h n (omega arith)) (sym (take-suc xs n d (omega arith)))
 
 -- rows of k words
 module _ {A : Type 0} (g : A → List ℕ) (k : ℕ) (wide : (x : A) → length (g x) ≡ k) (d : A) where

@@ -27,6 +27,17 @@ or-right false b h = h
 pub not-both {ℓ} : {X : Type ℓ} (b : Bool) → b ≡ true → b ≡ false → X
 not-both b p q = absurd (let z : _≡_ {A = ℕ} 0 1 = cc in omega arith)
 
+-- of two tests that do not hold together
+pub neither : (a b : Bool) → (a || b) ≡ false → (a ≡ false) × (b ≡ false)
+neither true b e = not-both true refl e
+neither false b e = (refl, e)
+
+-- a test that holds more often
+pub and-sub : (a x y : Bool) → (y ≡ true → x ≡ true) → (a && x) ≡ false → (a && y) ≡ false
+and-sub true x true h e = not-both x (h refl) e
+and-sub true x false h e = refl
+and-sub false x y h e = refl
+
 pub by-case {ℓ} : {A : Type ℓ} (Q : A → Type 0) (b : Bool) (x y : A) → (b ≡ true → Q x) → (b ≡ false → Q y) → Q (cond b x y)
 by-case Q true x y f g = f refl
 by-case Q false x y f g = g refl

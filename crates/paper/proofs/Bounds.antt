@@ -4,19 +4,19 @@ use Rattle.paper.specs.declared.Surface.{Surface}
 use Rattle.paper.specs.declared.Shown.{Shown}
 use Rattle.paper.specs.Words.{allB, anyB}
 use Rattle.paper.specs.Numbers.{serialNos, surfaceNos, u32, missing, sameSerial}
-use Rattle.paper.specs.Poc.{in32, eqZ}
+use Rattle.paper.specs.Poc.{in32}
 use Rattle.paper.specs.Output.{Tail}
 use Rattle.paper.specs.declared.Line.{Line}
 use Rattle.paper.specs.Ledger.{Event, Hand, Throw, Free, waitsAs, waits, lies, may, off, free, upon, mayAll, uponAll, events, names}
 use Prim.Native.Nat.{ℕ, zero, suc, _+_, _<_}
-use mathlib.Core.Path.{_≡_, refl, ap}
+use mathlib.Core.Path.{_≡_, refl}
 use mathlib.Core.List.{List, [], _∷_, _++_, map}
 use mathlib.Core.Bool.{Bool, true, false, not, _||_}
 use native.Mathlib.Omega.{arith}
 use lib.Dec.{eqb, ltb}
 use lib.ListN.{getD}
-use lib.IntN.{ℤ, pos, negsuc}
 use borrow.Author.Tests.{eqb-true, ltb-true}
+use Rattle.paper.proofs.Whole.{eqZ-true}
 use Rattle.paper.proofs.Bools.{left, right, split, not-both}
 use Rattle.paper.proofs.Events.{Runs, runs-first, runs-rest}
 use Rattle.paper.proofs.Every.{All, all-keep, all-map}
@@ -32,12 +32,6 @@ any-fit : {X : Type 0} (f : Line → Bool) (H : List Line) → All FitLine H →
 unfolding anyB
 any-fit f [] a k h = not-both false h refl
 any-fit f (e ∷ H) a k h = split (f e) (λ p. k e (a .0) p) (λ p. any-fit f H (a .1) k (rw p at h))
-
-same-z : (a b : ℤ) → eqZ a b ≡ true → a ≡ b
-same-z (pos a) (pos b) e = ap pos (eqb-true a b e)
-same-z (negsuc a) (negsuc b) e = ap negsuc (eqb-true a b e)
-same-z (pos a) (negsuc b) e = not-both false e refl
-same-z (negsuc a) (pos b) e = not-both false e refl
 
 off-fit : (n : ℕ) (H : List Line) → All FitLine H → All FitLine (map (off n) H)
 off-fit n H a = all-map FitLine FitLine (off n) (λ e f. record { serial = f .serial; surface = f .surface; poc = f .poc }) H a
@@ -63,7 +57,7 @@ fit-hands (x ∷ xs) H a m = (
       let h2 = right (eqb (x .serial .0) (e .serial .0)) _ h1 in
       let p : x .serial .0 ≡ e .serial .0 = eqb-true _ _ (left (eqb (x .serial .0) (e .serial .0)) _ h1) in
       let q : x .surface .0 ≡ e .surface .0 = eqb-true _ _ (left (eqb (x .surface .0) (e .surface .0)) _ h2) in
-      let z : x .poc ≡ e .poc = same-z (x .poc) (e .poc) (right (eqb (x .surface .0) (e .surface .0)) _ h2) in
+      let z : x .poc ≡ e .poc = eqZ-true (x .poc) (e .poc) (right (eqb (x .surface .0) (e .surface .0)) _ h2) in
       record { serial = rw p (f .serial); surface = rw q (f .surface); poc = rw z (f .poc) })
       (left (may (Hand x) H) _ m),
   fit-hands xs (upon (Hand x) H) (upon-fit (Hand x) H a) (right (may (Hand x) H) _ m),

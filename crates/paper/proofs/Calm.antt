@@ -14,20 +14,19 @@ use Rattle.paper.specs.declared.Picture.{Picture}
 use Rattle.paper.specs.declared.Found.{Found}
 use Rattle.paper.specs.declared.Limits.{Limits}
 use Rattle.paper.specs.declared.Current.{Current}
-use Rattle.paper.specs.Words.{keep, anyB}
+use Rattle.paper.specs.Words.{keep, anyB, dropFirst, changeFirst}
 use Rattle.paper.specs.Records.{Fields, limitsOf, fieldsOf}
 use Rattle.paper.specs.State.{Session, fresh, isMarked, onNow}
 use Rattle.paper.specs.Sets.{marked}
-use Rattle.paper.specs.Output.{Moved, still, turns, lowest, leave, stay, done, handFound, handOut, cleared, emptied, inUse, removed, handWhile, dueLate, dueFull, due, beforeDecoding}
+use Rattle.paper.specs.Output.{Moved, still, turns, lowest, isIt, leave, stay, quieted, handFound, handOut, cleared, emptied, inUse, removed, handWhile, dueLate, dueFull, due, beforeDecoding}
 use Rattle.paper.specs.Begin.{markedStore, startsOver, noPrior, roomMade}
 use Rattle.paper.specs.Calls.{raised, stored, finished, drained, drainedNow, discarded, configuredSession}
 use Rattle.paper.specs.Step.{Decided, decideOf, stepOf, sessionAfter}
 use Rattle.paper.specs.declared.Found.the-variants.{Nothing, The}
 use Rattle.paper.proofs.Bools as B
-use Rattle.paper.proofs.Bools.{split, not-both, by-case}
-use Rattle.paper.proofs.Moves.{lowest-of}
-use Rattle.paper.proofs.Quiet.{waitings, fewer, one-fewer, few-wait, lowest-none, emptied-leaves}
-use Rattle.paper.proofs.Sizes.{done-fewer, done-one}
+use Rattle.paper.proofs.Bools.{split, not-both, neither, and-sub, by-case}
+use Rattle.paper.proofs.Firsts.{any-drop, any-change, lowest-first}
+use Rattle.paper.proofs.Quiet.{waitings, fewer, one-fewer, hand-fewer, few-wait, emptied-leaves}
 use Rattle.paper.proofs.Lasts.{by-begin}
 use Rattle.paper.proofs.Ways.{by-ways}
 
@@ -43,21 +42,11 @@ pub calm-due : (l : Limits) (ps : List Picture) → Calm l ps → dueLate l ps �
 unfolding dueLate waitings late
 calm-due l ps c = rw (le-ltb (l .reorder) (length (keep (λ (p : Picture). p .waiting) ps)) (c .few), c .none)
 
-or-false : (a b : Bool) → (a || b) ≡ false → (a ≡ false) × (b ≡ false)
-or-false true b e = not-both true refl e
-or-false false b e = (refl, e)
-
 due-calm : (l : Limits) (ps : List Picture) → dueLate l ps ≡ false → Calm l ps
 unfolding dueLate waitings late
 due-calm l ps e =
-    let o = or-false (ltb (l .reorder) (length (keep (λ (p : Picture). p .waiting) ps))) _ e in
+    let o = neither (ltb (l .reorder) (length (keep (λ (p : Picture). p .waiting) ps))) _ e in
     record { few = ltb-false (l .reorder) (length (keep (λ (p : Picture). p .waiting) ps)) (o .0); none = o .1 }
-
--- fewer lateness tests hold in a part
-and-sub : (a x y : Bool) → (y ≡ true → x ≡ true) → (a && x) ≡ false → (a && y) ≡ false
-and-sub true x true h e = sym (h refl) ∙ e
-and-sub true x false h e = refl
-and-sub false x y h e = refl
 
 calm-keep : (l : Limits) (f : Picture → Bool) (ps : List Picture) → Calm l ps → Calm l (keep f ps)
 calm-keep l f ps c =
@@ -66,33 +55,33 @@ calm-keep l f ps c =
       none = and-sub (not (eqb (l .latency) 0)) (anyB (late l) ps) (anyB (late l) (keep f ps)) (λ h. B.any-keep (late l) f ps h) (c .none);
     }
 
-late-done : (l : Limits) (n : ℕ) (p : Picture) → late l (done n p) ≡ true → late l p ≡ true
+-- one that no longer waits is not late
+calm-change : (l : Limits) (t : Picture → Bool) (ps : List Picture) → length (waitings (changeFirst t quieted ps)) ≤ length (waitings ps) → Calm l ps → Calm l (changeFirst t quieted ps)
 unfolding late
-late-done l n p h = shrink (p .waiting) (not (eqb n (p .serial .0))) _ h
-  where
-    shrink : (w b c : Bool) → ((w && b) && c) ≡ true → (w && c) ≡ true
-    shrink true true c e = e
-    shrink true false c e = not-both false e refl
-    shrink false b c e = e
-
-calm-done : (l : Limits) (n : ℕ) (ps : List Picture) → Calm l ps → Calm l (map (done n) ps)
-calm-done l n ps c =
+calm-change l t ps h c =
     record {
-      few = omega (arith, done-fewer n ps, c .few);
-      none =
-          and-sub (not (eqb (l .latency) 0)) (anyB (late l) ps) (anyB (late l) (map (done n) ps))
-          (λ h. B.any-mono (λ (p : Picture). late l (done n p)) (late l) (λ p k. late-done l n p k) ps (sym (B.any-map (late l) (done n) ps) ∙ h)) (c .none);
+      few = omega (arith, h, c .few);
+      none = and-sub (not (eqb (l .latency) 0)) (anyB (late l) ps) (anyB (late l) (changeFirst t quieted ps)) (λ k. any-change (late l) t quieted (λ p e. not-both false e refl) ps k) (c .none);
+    }
+
+calm-drop : (l : Limits) (t : Picture → Bool) (ps : List Picture) → length (waitings (dropFirst t ps)) ≤ length (waitings ps) → Calm l ps → Calm l (dropFirst t ps)
+calm-drop l t ps h c =
+    record {
+      few = omega (arith, h, c .few);
+      none = and-sub (not (eqb (l .latency) 0)) (anyB (late l) ps) (anyB (late l) (dropFirst t ps)) (λ k. any-drop (late l) t ps k) (c .none);
     }
 
 calm-hand : (l : Limits) (always : Bool) (ps : List Picture) → Calm l ps → Calm l (handOut always ps .pics)
 unfolding handOut
-calm-hand l always ps c = go (lowest Nothing ps)
+calm-hand l always ps c = go (lowest Nothing ps) refl
   where
-    go : (x : Found) → Calm l (handFound always ps x .pics)
-    go Nothing = c
-    go (The p) =
+    go : (x : Found) → lowest Nothing ps ≡ x → Calm l (handFound always ps x .pics)
+    go Nothing e = c
+    go (The p) e =
+        let f = lowest-first ps p e in
         by-case (λ (m : Moved). Calm l (m .pics)) (always || not (isMarked (p .mark))) (leave ps p) (stay ps p)
-        (λ _. calm-keep l (λ (q : Picture). not (eqb (p .serial .0) (q .serial .0))) ps c) (λ _. calm-done l (p .serial .0) ps c)
+        (λ _. calm-drop l (isIt p) ps (omega (arith, one-fewer true p ps f)) c)
+        (λ _. calm-change l (isIt p) ps (omega (arith, one-fewer false p ps f)) c)
 
 calm-turns : (l : Limits) (f : List Picture → Moved) → ((qs : List Picture) → Calm l qs → Calm l (f qs .pics)) → (n : ℕ) (ps : List Picture) → Calm l ps → Calm l (turns n f ps .pics)
 unfolding turns
@@ -118,19 +107,6 @@ no-late l (p ∷ ps) z h =
 none-due : (l : Limits) (ps : List Picture) → length (waitings ps) ≡ 0 → dueLate l ps ≡ false
 none-due l ps z = calm-due l ps (record { few = omega arith; none = and-sub (not (eqb (l .latency) 0)) false (anyB (late l) ps) (λ h. no-late l ps z h) (mathlib.Core.Bool.and-false (not (eqb (l .latency) 0))) })
 
-hand-less : (b : Bool) (ps : List Picture) (n : ℕ) → length (waitings ps) ≤ suc n → length (waitings (handOut b ps .pics)) ≤ n
-unfolding handOut
-hand-less b ps n h = go (lowest Nothing ps) refl
-  where
-    go : (x : Found) → lowest Nothing ps ≡ x → length (waitings (handFound b ps x .pics)) ≤ n
-    go Nothing e = omega (arith, lowest-none Nothing ps e .1)
-    go (The p) e =
-        ⊎-elim {C = length (waitings (handFound b ps (The p) .pics)) ≤ n} (λ c. absurd (let z : _≡_ {A = ℕ} 0 1 = cc in omega arith))
-        (λ m.
-        by-case (λ (x : Moved). length (waitings (x .pics)) ≤ n) (b || not (isMarked (p .mark))) (leave ps p) (stay ps p)
-        (λ _. omega (arith, one-fewer p ps (m .0) (m .1))) (λ _. omega (arith, done-one p ps (m .0) (m .1))))
-        (lowest-of Nothing ps p e)
-
 -- "hand out while one is due and one waits" ends with nothing due or nothing waiting, whatever "due" is
 waits-none : (g : List Picture → Bool) (n : ℕ) (ps : List Picture) → g ps ≡ false → g (turns n (turnOf g) ps .pics) ≡ false
 unfolding turns
@@ -140,7 +116,7 @@ waits-none g (suc n) ps e = rw e (waits-none g n ps e)
 ends-after : (g : List Picture → Bool) (n : ℕ) (ps : List Picture) → length (waitings ps) ≤ n → (g (turns n (turnOf g) ps .pics) ≡ false) ⊎ (length (waitings (turns n (turnOf g) ps .pics)) ≡ 0)
 unfolding turns
 ends-after g zero ps h = inr (omega arith)
-ends-after g (suc n) ps h = split (g ps) (λ e. rw e (ends-after g n (handOut false ps .pics) (hand-less false ps n h))) (λ e. rw e (inl (waits-none g n ps e)))
+ends-after g (suc n) ps h = split (g ps) (λ e. rw e (ends-after g n (handOut false ps .pics) (hand-fewer false ps n h))) (λ e. rw e (inl (waits-none g n ps e)))
 
 pub while-ends : (g : List Picture → Bool) (ps : List Picture) → (g (handWhile g ps .pics) ≡ false) ⊎ (length (waitings (handWhile g ps .pics)) ≡ 0)
 unfolding handWhile

@@ -4,7 +4,6 @@ use mathlib.Core.Path.{_≡_, refl}
 use mathlib.Core.List.{List, _++_, map}
 use mathlib.Core.Bool.{Bool, true, false, cond, not, _||_}
 use lib.ListN.{length}
-use lib.Dec.{eqb}
 use Rattle.paper.specs.declared.Serial.{Serial}
 use Rattle.paper.specs.declared.Limits.{Limits}
 use Rattle.paper.specs.declared.Mark.{Mark}
@@ -14,14 +13,15 @@ use Rattle.paper.specs.Words.{keep}
 use Rattle.paper.specs.Records.{Fields}
 use Rattle.paper.specs.State.{Session, isMarked, modulus}
 use Rattle.paper.specs.Sets.{Wishes, usedBy, unusedBy, isIn, marked, inOrder, markAll, markOnly, longSet, longMarked, setsOf, marksOf, unmarkedIf}
-use Rattle.paper.specs.Output.{Moved, still, turns, lowest, leave, stay, done, handFound, handOut, cleared, emptied, inUse, removed, handWhile, due, beforeDecoding}
+use Rattle.paper.specs.Output.{Moved, still, turns, lowest, isIt, leave, stay, quieted, handFound, handOut, cleared, emptied, inUse, removed, handWhile, due, beforeDecoding}
 use Rattle.paper.specs.Begin.{wishes, startsOver, markedStore}
 use Rattle.paper.specs.declared.Mark.the-variants as Mark
 use Rattle.paper.specs.declared.Found.the-variants.{Nothing, The}
 use Rattle.paper.proofs.Bools.{by-case}
-use Rattle.paper.proofs.Every.{All, all-keep, all-map}
+use Rattle.paper.proofs.Every.{All, all-keep}
+use Rattle.paper.proofs.Firsts.{all-drop, all-change}
 
-module _ (P : Picture → Type 0) (last : (n : ℕ) (p : Picture) → P p → P (done n p)) where
+module _ (P : Picture → Type 0) (last : (p : Picture) → P p → P (quieted p)) where
   all-hand : (always : Bool) (ps : List Picture) → All P ps → All P (handOut always ps .pics)
   unfolding handOut
   all-hand always ps a = go (lowest Nothing ps)
@@ -30,8 +30,7 @@ module _ (P : Picture → Type 0) (last : (n : ℕ) (p : Picture) → P p → P 
       go Nothing = a
       go (The p) =
           by-case (λ (m : Moved). All P (m .pics)) (always || not (isMarked (p .mark))) (leave ps p) (stay ps p)
-          (λ _. all-keep P (λ (q : Picture). not (eqb (p .serial .0) (q .serial .0))) ps a)
-          (λ _. all-map P P (done (p .serial .0)) (last (p .serial .0)) ps a)
+          (λ _. all-drop P (isIt p) ps a) (λ _. all-change P (isIt p) quieted last ps a)
 
   all-turns : (f : List Picture → Moved) → ((qs : List Picture) → All P qs → All P (f qs .pics)) → (n : ℕ) (ps : List Picture) → All P ps → All P (turns n f ps .pics)
   unfolding turns

@@ -3,6 +3,7 @@ pub mod Bools
 pub mod Places
 pub mod Events
 pub mod Every
+pub mod Firsts
 pub mod Apart
 pub mod Moves
 pub mod Quiet
@@ -16,6 +17,7 @@ pub mod Ways
 pub mod Sound
 pub mod Heard
 pub mod LedgerTold
+pub mod BySerial
 pub mod Flow
 pub mod Tidy
 pub mod Accounts

@@ -4,7 +4,6 @@ use mathlib.Core.Path.{_≡_, refl, sym, ap, _∙_}
 use mathlib.Core.Logic.{_⊎_, inl, inr, ⊎-elim}
 use mathlib.Core.List.{List, [], _∷_, _++_, map}
 use mathlib.Core.Bool.{Bool, true, false, cond, not, _&&_, _||_}
-use native.Mathlib.Omega.{arith}
 use lib.Dec.{eqb}
 use lib.ListN.{length}
 use borrow.Author.Tests.{eqb-true, eq-eqb}
@@ -18,7 +17,7 @@ use Rattle.paper.specs.Numbers.{missing, aSerial, sameSerial}
 use Rattle.paper.specs.Records.{Fields}
 use Rattle.paper.specs.State.{Session, isMarked, isShortTerm, modulus}
 use Rattle.paper.specs.Sets.{Wishes, usedBy, unusedBy, isIn, marked, marksOf, firstOf, longMatch, shortMatch, markAll, markOnly, inOrder, longSet, shortSet, longMarked, setsOf}
-use Rattle.paper.specs.Output.{Moved, still, turns, lowest, leave, stay, done, handFound, handOut, inUse, removed, handWhile, due, beforeDecoding}
+use Rattle.paper.specs.Output.{Moved, still, turns, lowest, isIt, leave, stay, quieted, handFound, handOut, inUse, removed, handWhile, due, beforeDecoding}
 use Rattle.paper.specs.Begin.{wishes, sets, unmarkedStore, markedStore, startsOver, roomMade}
 use Rattle.paper.specs.declared.Line.{Line}
 use Rattle.paper.specs.Ledger.{names}
@@ -28,8 +27,9 @@ use Rattle.paper.specs.declared.Found.the-variants.{Nothing, The}
 use Rattle.paper.proofs.Bools as B
 use Rattle.paper.proofs.Bools.{both, left, right, split, not-both, or-left, or-right, by-case}
 use Rattle.paper.proofs.Every.{All, all-append, all-both, all-more, all-true, any-kept, every}
-use Rattle.paper.proofs.Apart.{Distinct, Told, told-apart}
-use Rattle.paper.proofs.Moves.{Tells, lowest-of, same-eqb, tells-hand, tells-still, tells-removed}
+use Rattle.paper.proofs.Apart.{Distinct, Told, told-apart, serials}
+use Rattle.paper.proofs.Firsts.{first-mem, any-same, lowest-first}
+use Rattle.paper.proofs.Moves.{Tells, drop-others, same-eqb, tells-hand, tells-still, tells-removed}
 
 -- a stored picture of serial n that has a mark
 abbrev pub marks : Serial → Picture → Bool
@@ -50,13 +50,10 @@ keeps-hand ps d n h = go (lowest Nothing ps) refl
     go : (x : Found) → lowest Nothing ps ≡ x → anyB (marks n) (handFound false ps x .pics) ≡ true
     go Nothing e = h
     go (The p) e =
-        ⊎-elim {C = anyB (marks n) (handFound false ps (The p) .pics) ≡ true}
-        (λ c. absurd (let z : _≡_ {A = ℕ} 0 1 = cc in omega arith))
-        (λ m.
+        let f = lowest-first ps p e in
         by-case (λ (x : Moved). anyB (marks n) (x .pics) ≡ true) (not (isMarked (p .mark))) (leave ps p) (stay ps p)
-        (λ u. any-kept (marks n) (λ (q : Picture). not (eqb (p .serial .0) (q .serial .0))) ps (all-more (Told p) _ (λ q t k. stays p q u t k) ps (told-apart p ps d (m .0))) h)
-        (λ _. B.any-map (marks n) (done (p .serial .0)) ps ∙ h))
-        (lowest-of Nothing ps p e)
+        (λ u. rw (drop-others (isIt p) p ps (serials ps d) f) (any-kept (marks n) (λ (q : Picture). not (eqb (p .serial .0) (q .serial .0))) ps (all-more (Told p) _ (λ q t k. stays p q u t k) ps (told-apart p ps d (first-mem (isIt p) p ps f))) h))
+        (λ _. any-same (marks n) (isIt p) quieted (λ q. refl) ps ∙ h)
       where
         stays : (p q : Picture) → not (isMarked (p .mark)) ≡ true → Told p q → marks n q ≡ true → not (eqb (p .serial .0) (q .serial .0)) ≡ true
         stays p q u (inl e) k = not-both (not (isMarked (p .mark))) u (rw (rw e at (right (sameSerial n (q .serial)) _ k)))

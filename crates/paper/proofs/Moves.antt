@@ -2,29 +2,29 @@
 use Rattle.paper.specs.declared.Surface.{Surface}
 use Rattle.paper.specs.declared.Picture.{Picture}
 use Rattle.paper.specs.declared.Found.{Found}
-use Rattle.paper.specs.Words.{keep, allB, anyB}
+use Rattle.paper.specs.Words.{keep, allB, anyB, dropFirst, changeFirst}
 use Rattle.paper.specs.State.{isMarked}
-use Rattle.paper.specs.Poc.{eqZ}
-use Rattle.paper.specs.Output.{Tail, joined, Moved, still, andThen, turns, below, lowest, shown, done, leave, stay, handFound, handOut, cleared, emptied, inUse, removed, handWhile}
+use Rattle.paper.specs.Output.{Tail, joined, Moved, still, andThen, turns, lowest, isIt, shown, quieted, leave, stay, handFound, handOut, cleared, emptied, inUse, removed, handWhile}
 use Rattle.paper.specs.declared.Line.{Line}
 use Rattle.paper.specs.Ledger.{Hand, Throw, Free, waitsAs, waits, lies, quietAt, may, off, free, upon, mayAll, uponAll, events}
 use Rattle.paper.specs.Statement.{line}
+use Rattle.paper.specs.BySerial.{other, done}
 use Prim.Native.Nat.{ℕ, zero, suc}
 use mathlib.Core.Path.{_≡_, refl, sym, ap, _∙_, subst}
 use mathlib.Core.Logic.{_⊎_, inl, inr, ⊎-elim}
-use mathlib.Core.List.{List, [], _∷_, map, map-map}
+use mathlib.Core.List.{List, [], _∷_, map, map-id, map-map}
 use mathlib.Core.Bool.{Bool, true, false, cond, not, _&&_, _||_}
-use native.Mathlib.Omega.{arith}
 use lib.Dec.{eqb}
 use lib.ListN.{length}
 use borrow.Author.Tests.{eq-eqb}
-use lib.IntN.{ℤ, pos, negsuc}
 use Rattle.paper.specs.declared.Found.the-variants.{Nothing, The}
+use Rattle.paper.proofs.Whole.{eqZ-refl}
 use Rattle.paper.proofs.Bools as B
 use Rattle.paper.proofs.Bools.{both, left, right, split, not-both, or-right, by-case}
 use Rattle.paper.proofs.Events.{Runs, runs-append, runs-join}
-use Rattle.paper.proofs.Every.{All, Mem, all-keep, all-map, all-more, all-true, any-mem, keep-all, keep-by, map-by}
-use Rattle.paper.proofs.Apart.{Other, Distinct, Told, told-apart, distinct-keep, distinct-map, flip}
+use Rattle.paper.proofs.Every.{All, Mem, all-at, all-keep, all-map, all-more, all-true, any-mem, keep-all, keep-by, map-by}
+use Rattle.paper.proofs.Apart.{Other, Distinct, OtherSerial, Serials, Told, told-apart, pairs-keep, distinct-map, serials, serial-flip, flip}
+use Rattle.paper.proofs.Firsts.{First, first-mem, first-holds, lowest-first}
 
 pub record Tells (ps : List Picture) (m : Moved) : Type 0 where
   pub runs : Runs (events (m .tail)) (map line ps) (map line (m .pics))
@@ -40,10 +40,6 @@ tells-then ps m f a b =
 
 pub same-eqb : (n : ℕ) → eqb n n ≡ true
 same-eqb n = eq-eqb n n refl
-
-same-eqZ : (z : ℤ) → eqZ z z ≡ true
-same-eqZ (pos n) = same-eqb n
-same-eqZ (negsuc n) = same-eqb n
 
 q-off : (w b c : Bool) → b ≡ true → (not (w && not b) || c) ≡ true
 q-off true b c e = rw e
@@ -70,7 +66,7 @@ line-quiet n q e = ap (wanting (line q)) (rw e)
 
 -- the store without the picture p
 abbrev pub others : Picture → List Picture → List Picture
-others p ps = keep (λ (q : Picture). not (eqb (p .serial .0) (q .serial .0))) ps
+others p ps = keep (other p) ps
 
 -- thrown away if it waits, and released
 abbrev pub one : Picture → Tail
@@ -112,7 +108,7 @@ module _ (p : Picture) (ps : List Picture) (d : Distinct ps) (i : Mem p ps) wher
   unfolding mayAll uponAll may upon
   hands w =
       record {
-        allowed = both (B.any-map (waitsAs (shown p)) line ps ∙ any-mem (λ (q : Picture). waitsAs (shown p) (line q)) p ps i (both w (both (same-eqb (p .serial .0)) (both (same-eqb (p .surface .0)) (same-eqZ (p .poc)))))) refl;
+        allowed = both (B.any-map (waitsAs (shown p)) line ps ∙ any-mem (λ (q : Picture). waitsAs (shown p) (line q)) p ps i (both w (both (same-eqb (p .serial .0)) (both (same-eqb (p .surface .0)) (eqZ-refl (p .poc)))))) refl;
         leads = refl;
       }
 
@@ -132,34 +128,63 @@ module _ (p : Picture) (ps : List Picture) (d : Distinct ps) (i : Mem p ps) wher
       ∙ map-by (λ (q : Picture). off (p .serial .0) (line q)) line ps
       (all-more (Told p) _ (λ q t. ⊎-elim {C = off (p .serial .0) (line q) ≡ line q} (λ e. line-quiet (p .serial .0) q (rw e w)) (λ o. line-off (p .serial .0) q (o .serial)) t) ps (told-apart p ps d i)))
 
-  pub tells-leave : p .waiting ≡ true → Tells ps (leave ps p)
-  tells-leave w = record { runs = runs-append (hands w) frees; distinct = distinct-keep (λ (q : Picture). not (eqb (p .serial .0) (q .serial .0))) ps d }
-
-  pub tells-stay : p .waiting ≡ true → Tells ps (stay ps p)
-  tells-stay w =
-      record {
-        runs = rw (map-map line (done (p .serial .0)) ps, ← map-map (off (p .serial .0)) line ps) (hands w);
-        distinct = distinct-map (done (p .serial .0)) (λ q. record { serial = refl; surface = refl }) ps d;
-      }
-
   pub drop-one : Runs (events (one p)) (map line ps) (map line (others p ps))
   drop-one = split (p .waiting) (λ w. rw w (runs-append (throws w) frees)) (λ w. rw (w, is-off w) frees)
 
--- the lowest that waits is one of the store
-pub lowest-of : (b : Found) (ps : List Picture) (p : Picture) → lowest b ps ≡ The p → (b ≡ The p) ⊎ (Mem p ps × (p .waiting ≡ true))
-unfolding lowest
-lowest-of b [] p e = inl e
-lowest-of b (q ∷ ps) p e =
-    ⊎-elim {C = (b ≡ The p) ⊎ (Mem p (q ∷ ps) × (p .waiting ≡ true))}
-    (λ c.
-    split (q .waiting && below q b)
-    (λ t. inr (inl (is-the p q (rw t at c)), rw (is-the p q (rw t at c)) (left (q .waiting) _ t)))
-    (λ t. inl (rw t at c)))
-    (λ m. inr (inr (m .0), m .1))
-    (lowest-of (cond (q .waiting && below q b) (The q) b) ps p e)
+-- all others are the rest
+pub rest-is : (p : Picture) (ps : List Picture) → All (OtherSerial p) ps → others p (p ∷ ps) ≡ ps
+unfolding keep
+rest-is p ps a = rw (same-eqb (p .serial .0)) (keep-all (other p) ps a)
+
+-- a picture of another serial stays as it is
+done-other : (p q : Picture) → OtherSerial p q → done p q ≡ q
+done-other p q o = ap it (rw (o, mathlib.Core.Bool.and-true (q .waiting)))
   where
-    is-the : (p q : Picture) → The q ≡ The p → p ≡ q
-    is-the p q e = cc
+    it : Bool → Picture
+    it w = record { serial = q .serial; surface = q .surface; poc = q .poc; mark = q .mark; waiting = w; count = q .count }
+
+-- where pictures are told apart by serial, the first of which t holds is the one of its serial
+module _ (t : Picture → Bool) (p : Picture) where
+  elsewhere : (q : Picture) (ps : List Picture) → All (OtherSerial q) ps → First t p ps → OtherSerial p q
+  elsewhere q ps a f = serial-flip q p (all-at (OtherSerial q) p ps a (first-mem t p ps f))
+
+  pub drop-others : (ps : List Picture) → Serials ps → First t p ps → dropFirst t ps ≡ others p ps
+  unfolding dropFirst keep
+  drop-others [] d f = absurd f
+  drop-others (q ∷ ps) d (inl f) = rw (f .0) (sym (rw (← f .1) (rest-is p ps (rw (f .1) (d .0)))))
+  drop-others (q ∷ ps) d (inr f) = rw (f .0, elsewhere q ps (d .0) (f .1)) (ap (λ (l : List Picture). q ∷ l) (drop-others ps (d .1) (f .1)))
+
+  pub change-done : (ps : List Picture) → Serials ps → First t p ps → changeFirst t quieted ps ≡ map (done p) ps
+  unfolding changeFirst
+  change-done [] d f = absurd f
+  change-done (q ∷ ps) d (inl f) =
+      rw (f .0, ← f .1, same-eqb (p .serial .0), mathlib.Core.Bool.and-false (p .waiting))
+      (ap (λ (l : List Picture). quieted p ∷ l) (sym (map-by (done p) (λ (x : Picture). x) ps (all-more (OtherSerial p) _ (λ x o. done-other p x o) ps (rw (f .1) (d .0))) ∙ map-id ps)))
+  change-done (q ∷ ps) d (inr f) =
+      rw (f .0, done-other p q (elsewhere q ps (d .0) (f .1))) (ap (λ (l : List Picture). q ∷ l) (change-done ps (d .1) (f .1)))
+
+module _ (p : Picture) (ps : List Picture) (d : Distinct ps) (f : First (isIt p) p ps) where
+  found-in : Mem p ps
+  found-in = first-mem (isIt p) p ps f
+
+  waits-in : p .waiting ≡ true
+  waits-in = left (p .waiting) _ (first-holds (isIt p) p ps f)
+
+  tells-leave : Tells ps (leave ps p)
+  tells-leave =
+      rw (drop-others (isIt p) p ps (serials ps d) f)
+      (record {
+        runs = runs-append (hands p ps d found-in waits-in) (frees p ps d found-in);
+        distinct = pairs-keep Other (other p) ps d;
+      })
+
+  tells-stay : Tells ps (stay ps p)
+  tells-stay =
+      rw (change-done (isIt p) p ps (serials ps d) f)
+      (record {
+        runs = rw (map-map line (done p) ps, ← map-map (off (p .serial .0)) line ps) (hands p ps d found-in waits-in);
+        distinct = distinct-map (done p) (λ q. record { serial = refl; surface = refl }) ps d;
+      })
 
 pub tells-hand : (always : Bool) (ps : List Picture) → Distinct ps → Tells ps (handOut always ps)
 unfolding handOut
@@ -168,13 +193,8 @@ tells-hand always ps d = go (lowest Nothing ps) refl
     go : (x : Found) → lowest Nothing ps ≡ x → Tells ps (handFound always ps x)
     go Nothing e = tells-still ps d
     go (The p) e =
-        ⊎-elim {C = Tells ps (handFound always ps (The p))}
-        (λ c. not-found c)
-        (λ m. by-case (Tells ps) (always || not (isMarked (p .mark))) _ _ (λ _. tells-leave p ps d (m .0) (m .1)) (λ _. tells-stay p ps d (m .0) (m .1)))
-        (lowest-of Nothing ps p e)
-      where
-        not-found : Nothing ≡ The p → Tells ps (handFound always ps (The p))
-        not-found c = absurd (let z : _≡_ {A = ℕ} 0 1 = cc in omega arith)
+        let f = lowest-first ps p e in
+        by-case (Tells ps) (always || not (isMarked (p .mark))) (leave ps p) (stay ps p) (λ _. tells-leave p ps d f) (λ _. tells-stay p ps d f)
 
 pub tells-turns : (n : ℕ) (f : List Picture → Moved) → ((qs : List Picture) → Distinct qs → Tells qs (f qs)) → (ps : List Picture) → Distinct ps → Tells ps (turns n f ps)
 unfolding turns
@@ -188,12 +208,8 @@ tells-while g ps d =
     (λ qs e. by-case (Tells qs) (g qs) _ _ (λ _. tells-hand false qs e) (λ _. tells-still qs e)) ps d
 
 -- the first of the store leaves, and the rest is left
-pub rest-is : (p : Picture) (ps : List Picture) → All (Other p) ps → others p (p ∷ ps) ≡ ps
-unfolding keep
-rest-is p ps a = rw (same-eqb (p .serial .0)) (keep-all (λ (q : Picture). not (eqb (p .serial .0) (q .serial .0))) ps (all-more (Other p) _ (λ q o. rw (o .serial)) ps a))
-
 pub drop-first : (p : Picture) (ps : List Picture) → Distinct (p ∷ ps) → Runs (events (one p)) (map line (p ∷ ps)) (map line ps)
-drop-first p ps d = rw (rest-is p ps (d .0)) at (drop-one p (p ∷ ps) d (inl refl))
+drop-first p ps d = rw (rest-is p ps (serials (p ∷ ps) d .0)) at (drop-one p (p ∷ ps) d (inl refl))
 
 cleared-more : (p : Picture) (ps : List Picture) → cleared (p ∷ ps) .tail ≡ joined (one p) (cleared ps .tail)
 unfolding cleared keep
@@ -283,7 +299,7 @@ frees-removed (p ∷ ps) d =
 
 left-over : (ps : List Picture) → Distinct ps → Distinct (removed ps .pics)
 unfolding removed
-left-over ps d = distinct-keep inUse ps d
+left-over ps d = pairs-keep Other inUse ps d
 
 pub tells-removed : (ps : List Picture) → Distinct ps → Tells ps (removed ps)
 tells-removed ps d = record { runs = frees-removed ps d; distinct = left-over ps d }

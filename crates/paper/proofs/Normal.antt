@@ -46,7 +46,7 @@ raised-counts p h = by-case (λ (n : ℕ). n ≤ 2147483647) (ltb (p .count) cou
 finished-counts : (l : Limits) (ps : List Picture) (c : Current) → All Counts ps → All Counts (finished l ps c .pics)
 unfolding finished
 finished-counts l ps c a =
-    all-while Counts (λ n p h. h) (due false l) (map raised ps ++ (stored c ∷ [])) (all-append Counts (map raised ps) (stored c ∷ []) (all-map Counts Counts raised raised-counts ps a) (zero-le, tt))
+    all-while Counts (λ p h. h) (due false l) (map raised ps ++ (stored c ∷ [])) (all-append Counts (map raised ps) (stored c ∷ []) (all-map Counts Counts raised raised-counts ps a) (zero-le, tt))
 
 pub in-range : (l : Limits) → configureRanges l ≡ true → l .k ≤ 16
 unfolding configureRanges
@@ -73,7 +73,7 @@ module _ (s : Session) (r : List ℕ) (i : Bounded s) where
         most = i .most;
         room = omega (arith, shrinks-room s f .frees, marked-length s f, i .room);
         counts =
-            all-before Counts (λ n p h. h) (startsOver s f && not (s .ended)) (noPrior s f) (s .limits) (markedStore s f)
+            all-before Counts (λ p h. h) (startsOver s f && not (s .ended)) (noPrior s f) (s .limits) (markedStore s f)
             (by-begin (All Counts) (λ g ps h a. all-map Counts Counts g (λ p o. rw (h p .1) o) ps a) s f (i .counts));
       }
 

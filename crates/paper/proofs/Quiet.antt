@@ -1,21 +1,18 @@
 -- Handing out throws nothing away, and emptying leaves nothing to throw away.
-use Prim.Native.Nat.{ℕ, zero, suc, _≤_, _<_, zero-le}
+use Prim.Native.Nat.{ℕ, zero, suc, _≤_, zero-le}
 use mathlib.Core.Path.{_≡_, refl, sym, ap, _∙_}
-use mathlib.Core.Logic.{inl, inr, ⊎-elim}
 use mathlib.Core.List.{List, [], _∷_, map}
 use mathlib.Core.Bool.{Bool, true, false, cond, not, _&&_, _||_}
 use native.Mathlib.Omega.{arith}
-use lib.Dec.{eqb}
 use lib.ListN.{length}
 use Rattle.paper.specs.declared.Picture.{Picture}
 use Rattle.paper.specs.declared.Found.{Found}
 use Rattle.paper.specs.Words.{keep}
 use Rattle.paper.specs.State.{isMarked}
-use Rattle.paper.specs.Output.{Moved, still, turns, below, lowest, handFound, handOut, cleared, emptied, handWhile}
+use Rattle.paper.specs.Output.{Moved, still, turns, below, lowest, leave, stay, quieted, isIt, handFound, handOut, cleared, emptied, handWhile}
 use Rattle.paper.specs.declared.Found.the-variants.{Nothing, The}
-use Rattle.paper.proofs.Bools.{split, by-case}
-use Rattle.paper.proofs.Every.{Mem}
-use Rattle.paper.proofs.Moves.{others, lowest-of, same-eqb}
+use Rattle.paper.proofs.Bools.{left, split, by-case}
+use Rattle.paper.proofs.Firsts.{First, first-holds, drop-keep, change-keep, lowest-first}
 
 -- nothing is thrown away by a turn
 hand-throws : (always : Bool) (ps : List Picture) → handOut always ps .tail .thrown ≡ []
@@ -58,7 +55,7 @@ lowest-none b (q ∷ ps) e =
     not-there : (q : Picture) → (q .waiting && true) ≡ false → q .waiting ≡ false
     not-there q e = sym (mathlib.Core.Bool.and-true (q .waiting)) ∙ e
 
--- one that waits and leaves waits no more
+-- of some that leave, those that wait wait no more
 pub fewer : (f : Picture → Bool) (ps : List Picture) → length (waitings (keep f ps)) ≤ length (waitings ps)
 unfolding waitings keep
 fewer f [] = zero-le
@@ -67,31 +64,28 @@ fewer f (p ∷ ps) =
     (λ e. rw e (split (p .waiting) (λ w. rw w (omega (arith, fewer f ps))) (λ w. rw w (fewer f ps))))
     (λ e. rw e (split (p .waiting) (λ w. rw w (omega (arith, fewer f ps))) (λ w. rw w (fewer f ps))))
 
-pub one-fewer : (p : Picture) (ps : List Picture) → Mem p ps → p .waiting ≡ true → length (waitings (others p ps)) < length (waitings ps)
-unfolding waitings keep
-one-fewer p [] m w = absurd m
-one-fewer p (q ∷ ps) (inl e) w =
-    rw (← e, same-eqb (p .serial .0), w) (omega (arith, fewer (λ (x : Picture). not (eqb (p .serial .0) (x .serial .0))) ps))
-one-fewer p (q ∷ ps) (inr m) w =
-    let k = one-fewer p ps m w in
-    split (not (eqb (p .serial .0) (q .serial .0)))
-    (λ e. rw e (split (q .waiting) (λ v. rw v (omega arith)) (λ v. rw v k)))
-    (λ e. rw e (split (q .waiting) (λ v. rw v (omega arith)) (λ v. rw v k)))
+-- what is found waits
+pub waits-first : (p : Picture) (ps : List Picture) → First (isIt p) p ps → p .waiting ≡ true
+waits-first p ps f = left (p .waiting) _ (first-holds (isIt p) p ps f)
 
-hand-fewer : (ps : List Picture) (n : ℕ) → length (waitings ps) ≤ suc n → length (waitings (handOut true ps .pics)) ≤ n
+-- a turn that hands one out leaves one fewer that wait
+pub one-fewer : (b : Bool) (p : Picture) (ps : List Picture) → First (isIt p) p ps → suc (length (waitings (cond b (leave ps p) (stay ps p) .pics))) ≡ length (waitings ps)
+unfolding waitings
+one-fewer true p ps f = drop-keep (λ (q : Picture). q .waiting) (isIt p) p (waits-first p ps f) ps f
+one-fewer false p ps f = change-keep (λ (q : Picture). q .waiting) (isIt p) p (waits-first p ps f) quieted refl ps f
+
+pub hand-fewer : (always : Bool) (ps : List Picture) (n : ℕ) → length (waitings ps) ≤ suc n → length (waitings (handOut always ps .pics)) ≤ n
 unfolding handOut
-hand-fewer ps n h = go (lowest Nothing ps) refl
+hand-fewer always ps n h = go (lowest Nothing ps) refl
   where
-    go : (x : Found) → lowest Nothing ps ≡ x → length (waitings (handFound true ps x .pics)) ≤ n
+    go : (x : Found) → lowest Nothing ps ≡ x → length (waitings (handFound always ps x .pics)) ≤ n
     go Nothing e = omega (arith, lowest-none Nothing ps e .1)
-    go (The p) e =
-        ⊎-elim {C = length (waitings (others p ps)) ≤ n} (λ c. absurd (let z : _≡_ {A = ℕ} 0 1 = cc in omega arith)) (λ m. omega (arith, one-fewer p ps (m .0) (m .1)))
-        (lowest-of Nothing ps p e)
+    go (The p) e = omega (arith, one-fewer (always || not (isMarked (p .mark))) p ps (lowest-first ps p e))
 
 all-out : (n : ℕ) (ps : List Picture) → length (waitings ps) ≤ n → length (waitings (turns n (handOut true) ps .pics)) ≡ 0
 unfolding turns
 all-out zero ps h = omega arith
-all-out (suc n) ps h = all-out n (handOut true ps .pics) (hand-fewer ps n h)
+all-out (suc n) ps h = all-out n (handOut true ps .pics) (hand-fewer true ps n h)
 
 pub few-wait : (ps : List Picture) → length (waitings ps) ≤ length ps
 unfolding waitings keep

@@ -10,21 +10,18 @@ use Rattle.paper.specs.Numbers.{bytes32, serialNos, surfaceNos}
 use Rattle.paper.specs.Kinds.{shownWidth}
 use Rattle.paper.specs.Records.{Fields}
 use Rattle.paper.specs.State.{Session, isMarked}
-use Rattle.paper.specs.Output.{Tail, Moved, still, andThen, turns, lowest, leave, stay, done, handFound, handOut, cleared, emptied, inUse, removed, handWhile, due, beforeDecoding}
+use Rattle.paper.specs.Output.{Tail, Moved, still, andThen, turns, lowest, isIt, leave, stay, quieted, handFound, handOut, cleared, emptied, inUse, removed, handWhile, due, beforeDecoding}
 use Rattle.paper.specs.Begin.{markedStore, startsOver, noPrior, roomMade}
 use Rattle.paper.specs.Replies.{shownBytes, words, tailBytes}
-use Prim.Native.Nat.{ℕ, zero, suc, _+_, _*_, _≤_, _<_, zero-le}
+use Prim.Native.Nat.{ℕ, zero, suc, _+_, _*_, _≤_}
 use mathlib.Core.Path.{_≡_, refl, _∙_}
-use mathlib.Core.Logic.{inl, inr, ⊎-elim}
-use mathlib.Core.List.{List, [], _∷_, _++_, map}
+use mathlib.Core.List.{List, [], _∷_, _++_}
 use mathlib.Core.Bool.{Bool, true, false, cond, not, _&&_, _||_}
 use native.Mathlib.Omega.{arith}
-use lib.Dec.{eqb}
 use lib.ListN.{length, length-append, length-map}
 use Rattle.paper.specs.declared.Found.the-variants.{Nothing, The}
 use Rattle.paper.proofs.Bools.{split, by-case}
-use Rattle.paper.proofs.Every.{Mem}
-use Rattle.paper.proofs.Moves.{others, lowest-of, same-eqb}
+use Rattle.paper.proofs.Firsts.{drop-length, change-length, lowest-first}
 use Rattle.paper.proofs.Quiet.{waitings, fewer, one-fewer, few-wait}
 use Rattle.paper.proofs.Lasts.{by-begin}
 
@@ -43,38 +40,6 @@ shrinks-then ps m f a b =
       frees = omega (arith, a .frees, b .frees, length-append (m .tail .released) (t .released));
     }
 
-gone-short : (p : Picture) (ps : List Picture) → Mem p ps → length (others p ps) < length ps
-unfolding keep
-gone-short p [] m = absurd m
-gone-short p (q ∷ ps) (inl e) = rw (← e, same-eqb (p .serial .0)) (omega (arith, kept-short (λ (x : Picture). not (eqb (p .serial .0) (x .serial .0))) ps))
-  where
-    kept-short : (f : Picture → Bool) (ps : List Picture) → length (keep f ps) ≤ length ps
-    kept-short f [] = zero-le
-    kept-short f (x ∷ xs) = split (f x) (λ w. rw w (omega (arith, kept-short f xs))) (λ w. rw w (omega (arith, kept-short f xs)))
-gone-short p (q ∷ ps) (inr m) =
-    let k = gone-short p ps m in
-    split (not (eqb (p .serial .0) (q .serial .0))) (λ w. rw w (omega arith)) (λ w. rw w (omega arith))
-
--- one that no longer waits
-pub done-fewer : (n : ℕ) (ps : List Picture) → length (waitings (map (done n) ps)) ≤ length (waitings ps)
-unfolding waitings keep
-done-fewer n [] = zero-le
-done-fewer n (p ∷ ps) =
-    let k = done-fewer n ps in
-    split (p .waiting)
-    (λ w. rw w (split (not (eqb n (p .serial .0))) (λ v. rw v (omega arith)) (λ v. rw v (omega arith))))
-    (λ w. rw w k)
-
-pub done-one : (p : Picture) (ps : List Picture) → Mem p ps → p .waiting ≡ true → length (waitings (map (done (p .serial .0)) ps)) < length (waitings ps)
-unfolding waitings keep
-done-one p [] m w = absurd m
-done-one p (q ∷ ps) (inl e) w = rw (← e, same-eqb (p .serial .0), w) (omega (arith, done-fewer (p .serial .0) ps))
-done-one p (q ∷ ps) (inr m) w =
-    let k = done-one p ps m w in
-    split (q .waiting)
-    (λ v. rw v (split (not (eqb (p .serial .0) (q .serial .0))) (λ u. rw u (omega arith)) (λ u. rw u (omega arith))))
-    (λ v. rw v k)
-
 pub shrinks-hand : (always : Bool) (ps : List Picture) → Shrinks ps (handOut always ps)
 unfolding handOut
 shrinks-hand always ps = go (lowest Nothing ps) refl
@@ -82,12 +47,10 @@ shrinks-hand always ps = go (lowest Nothing ps) refl
     go : (x : Found) → lowest Nothing ps ≡ x → Shrinks ps (handFound always ps x)
     go Nothing e = shrinks-still ps
     go (The p) e =
-        ⊎-elim {C = Shrinks ps (handFound always ps (The p))} (λ c. absurd (let z : _≡_ {A = ℕ} 0 1 = cc in omega arith))
-        (λ m.
+        let f = lowest-first ps p e in
         by-case (Shrinks ps) (always || not (isMarked (p .mark))) (leave ps p) (stay ps p)
-        (λ _. record { shows = omega (arith, one-fewer p ps (m .0) (m .1)); frees = omega (arith, gone-short p ps (m .0)) })
-        (λ _. record { shows = omega (arith, done-one p ps (m .0) (m .1)); frees = omega (arith, length-map ps (done (p .serial .0))) }))
-        (lowest-of Nothing ps p e)
+        (λ _. record { shows = omega (arith, one-fewer true p ps f); frees = omega (arith, drop-length (isIt p) p ps f) })
+        (λ _. record { shows = omega (arith, one-fewer false p ps f); frees = omega (arith, change-length (isIt p) quieted ps) })
 
 pub shrinks-turns : (f : List Picture → Moved) → ((qs : List Picture) → Shrinks qs (f qs)) → (n : ℕ) (ps : List Picture) → Shrinks ps (turns n f ps)
 unfolding turns

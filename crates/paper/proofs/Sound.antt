@@ -188,6 +188,24 @@ tells-begun s r i z run d k =
     (both (run .allowed) (both (ap (λ (H : List Line). clearing (begunOf s f) (roomMade s f .tail) H) (run .leads) ∙ k)
     (ap (λ (H : List Line). names (inOrder (sets s f)) H) (run .leads) ∙ begin-names s f d))))))
 
+-- told apart are the stored pictures, as they are, as begin marks them, and as finish adds the current one
+module _ (s : Session) (i : Sound s) where
+  pub store-distinct : Distinct (s .store)
+  store-distinct = distinct-first (s .store) (onNow (s .current) [] (λ (c : Current). stored c ∷ [])) (i .distinct)
+
+  pub marked-distinct : (f : Fields) → Distinct (markedStore s f)
+  marked-distinct f =
+      by-begin Distinct (λ g ps h q. distinct-map g (λ p. record { serial = ap (λ (x : Picture). x .serial .0) (h p .1); surface = ap (λ (x : Picture). x .surface .0) (h p .1) }) ps q) s f store-distinct
+
+  module _ (c : Current) (e : s .current ≡ Now.Is c) where
+    with-current : Distinct (s .store ++ (stored c ∷ []))
+    with-current = rw e at (i .distinct)
+
+    pub raised-distinct : Distinct (map raised (s .store) ++ (stored c ∷ []))
+    raised-distinct =
+        distinct-snoc (map raised (s .store)) (stored c) (distinct-map raised (λ p. record { serial = refl; surface = refl }) (s .store) store-distinct)
+        (all-map (λ (q : Picture). Other q (stored c)) (λ (q : Picture). Other q (stored c)) raised (λ q o. record { serial = o .serial; surface = o .surface }) (s .store) (distinct-last (s .store) (stored c) with-current))
+
 module _ (s : Session) (r : List ℕ) (i : Sound s) (bytes : allB (λ (b : ℕ). ltb b 256) r ≡ true) where
   good-refused : (kind n : ℕ) → kind < 65536 → n < 65536 → (n ≡ 0 → ⊥) → Good s r (refused s kind n)
   unfolding tell
@@ -203,24 +221,13 @@ module _ (s : Session) (r : List ℕ) (i : Sound s) (bytes : allB (λ (b : ℕ).
       go Now.Idle a = rw (append-nil (map line (s .store))) (lines-fit (s .store) (rw (append-nil (s .store)) at a))
       go (Now.Is c) a = rw (map-append line (s .store) (stored c ∷ [])) at (lines-fit (s .store ++ (stored c ∷ [])) a)
 
-  store-distinct : Distinct (s .store)
-  store-distinct = distinct-first (s .store) (onNow (s .current) [] (λ (c : Current). stored c ∷ [])) (i .distinct)
-
   store-below : All (Fine (s .next)) (s .store)
   store-below = all-first _ (s .store) (onNow (s .current) [] (λ (c : Current). stored c ∷ [])) (i .below)
 
   -- with a current picture
   module _ (c : Current) (e : s .current ≡ Now.Is c) where
-    with-current : Distinct (s .store ++ (stored c ∷ []))
-    with-current = rw e at (i .distinct)
-
     current-below : All (Fine (s .next)) (s .store ++ (stored c ∷ []))
     current-below = rw e at (i .below)
-
-    raised-distinct : Distinct (map raised (s .store) ++ (stored c ∷ []))
-    raised-distinct =
-        distinct-snoc (map raised (s .store)) (stored c) (distinct-map raised (λ p. record { serial = refl; surface = refl }) (s .store) store-distinct)
-        (all-map (λ (q : Picture). Other q (stored c)) (λ (q : Picture). Other q (stored c)) raised (λ q o. record { serial = o .serial; surface = o .surface }) (s .store) (distinct-last (s .store) (stored c) with-current))
 
     raised-below : All (Fine (s .next)) (map raised (s .store) ++ (stored c ∷ []))
     raised-below =
@@ -232,7 +239,7 @@ module _ (s : Session) (r : List ℕ) (i : Sound s) (bytes : allB (λ (b : ℕ).
 
     finish-runs : Runs (events (finished (s .limits) (s .store) c .tail)) (map line (s .store) ++ (currentLine c ∷ [])) (map line (finished (s .limits) (s .store) c .pics))
     unfolding finished
-    finish-runs = rw raised-lines at (tells-while (due false (s .limits)) (map raised (s .store) ++ (stored c ∷ [])) raised-distinct .runs)
+    finish-runs = rw raised-lines at (tells-while (due false (s .limits)) (map raised (s .store) ++ (stored c ∷ [])) (raised-distinct s i c e) .runs)
 
     current-fit : All FitLine (map line (s .store) ++ (currentLine c ∷ []))
     current-fit = rw (map-append line (s .store) (stored c ∷ [])) at (lines-fit (s .store ++ (stored c ∷ [])) current-below)
@@ -243,11 +250,11 @@ module _ (s : Session) (r : List ℕ) (i : Sound s) (bytes : allB (λ (b : ℕ).
 
     finish-distinct : Distinct (finished (s .limits) (s .store) c .pics)
     unfolding finished
-    finish-distinct = tells-while (due false (s .limits)) (map raised (s .store) ++ (stored c ∷ [])) raised-distinct .distinct
+    finish-distinct = tells-while (due false (s .limits)) (map raised (s .store) ++ (stored c ∷ [])) (raised-distinct s i c e) .distinct
 
     finish-below : All (Fine (s .next)) (finished (s .limits) (s .store) c .pics)
     unfolding finished
-    finish-below = all-while (Fine (s .next)) (λ n p h. h) (due false (s .limits)) (map raised (s .store) ++ (stored c ∷ [])) raised-below
+    finish-below = all-while (Fine (s .next)) (λ p h. h) (due false (s .limits)) (map raised (s .store) ++ (stored c ∷ [])) raised-below
 
     good-finish : Good s r (accepted (finishedSession s c) finishKind (finished (s .limits) (s .store) c .tail))
     unfolding tell none
@@ -267,19 +274,19 @@ module _ (s : Session) (r : List ℕ) (i : Sound s) (bytes : allB (λ (b : ℕ).
     good-abandon =
         record {
           tells = rw e (ledgers refl refl (both (drop-runs .allowed) (rw (drop-runs .leads))));
-          sound = sound-idle _ (s .store) refl refl refl store-distinct store-below (i .small);
+          sound = sound-idle _ (s .store) refl refl refl (store-distinct s i) store-below (i .small);
           fit = (omega arith, (λ z. omega arith), (λ z. omega arith), fit-tail (dropped c) _ _ (all-last FitLine (map line (s .store)) (currentLine c ∷ []) current-fit) drop-runs);
         }
 
     -- discard
     without-current : others (stored c) (s .store ++ (stored c ∷ [])) ≡ s .store
-    without-current = last-out (stored c) (s .store) (distinct-last (s .store) (stored c) with-current)
+    without-current = last-out (stored c) (s .store) (distinct-last (s .store) (stored c) (with-current s i c e))
 
     discard-runs : Runs (events (joined (dropped c) (cleared (s .store) .tail))) (map line (s .store) ++ (currentLine c ∷ [])) []
     discard-runs =
         runs-join (dropped c) (cleared (s .store) .tail)
-        (rw (without-current, map-append line (s .store) (stored c ∷ [])) at (drop-one (stored c) (s .store ++ (stored c ∷ [])) with-current (last-mem (s .store))))
-        (clears (s .store) store-distinct)
+        (rw (without-current, map-append line (s .store) (stored c ∷ [])) at (drop-one (stored c) (s .store ++ (stored c ∷ [])) (with-current s i c e) (last-mem (s .store))))
+        (clears (s .store) (store-distinct s i))
       where
         last-mem : (ps : List Picture) → Mem (stored c) (ps ++ (stored c ∷ []))
         last-mem [] = inl refl
@@ -295,7 +302,7 @@ module _ (s : Session) (r : List ℕ) (i : Sound s) (bytes : allB (λ (b : ℕ).
   landed-now = go (s .current) refl
     where
       go : (x : Now) → s .current ≡ x → Landed (onNow x (still (s .store)) (finished (s .limits) (s .store)))
-      go Now.Idle e = record { runs = rw (e, append-nil (map line (s .store))) (tells-still (s .store) store-distinct .runs); throws = refl; apart = store-distinct }
+      go Now.Idle e = record { runs = rw (e, append-nil (map line (s .store))) (tells-still (s .store) (store-distinct s i) .runs); throws = refl; apart = store-distinct s i }
       go (Now.Is c) e = record { runs = rw e (finish-runs c e); throws = finish-throws c e; apart = finish-distinct c e }
 
   drained-runs : Runs (events (drainedNow s .tail)) (ledgerOf s .held ++ ledgerOf s .current) []
@@ -340,9 +347,9 @@ module _ (s : Session) (r : List ℕ) (i : Sound s) (bytes : allB (λ (b : ℕ).
       go : (x : Now) → s .current ≡ x → Good s r (accepted (discardedSession s) discardKind (joined (onNow x quiet dropped) (cleared (s .store) .tail)))
       go Now.Idle e =
           record {
-            tells = rw (e, append-nil (map line (s .store))) (ledgers (clears (s .store) store-distinct .leads) refl (ok-gone _ (none (cleared (s .store) .tail .thrown)) _ false (clears (s .store) store-distinct .allowed) (nothing (clears (s .store) store-distinct .leads))));
+            tells = rw (e, append-nil (map line (s .store))) (ledgers (clears (s .store) (store-distinct s i) .leads) refl (ok-gone _ (none (cleared (s .store) .tail .thrown)) _ false (clears (s .store) (store-distinct s i) .allowed) (nothing (clears (s .store) (store-distinct s i) .leads))));
             sound = sound-idle _ [] refl refl refl tt tt (i .small);
-            fit = (omega arith, (λ z. omega arith), (λ z. omega arith), fit-tail (cleared (s .store) .tail) _ _ (lines-fit (s .store) store-below) (clears (s .store) store-distinct));
+            fit = (omega arith, (λ z. omega arith), (λ z. omega arith), fit-tail (cleared (s .store) .tail) _ _ (lines-fit (s .store) store-below) (clears (s .store) (store-distinct s i)));
           }
       go (Now.Is c) e =
           record {
@@ -362,17 +369,13 @@ module _ (s : Session) (r : List ℕ) (i : Sound s) (bytes : allB (λ (b : ℕ).
         by-begin (λ (ps : List Picture). map line ps ≡ map line (s .store))
         (λ g ps h q. map-map line g ps ∙ B.map-ext (λ (p : Picture). line (g p)) line (λ p. ap line (h p .1)) ps ∙ q) s f refl
 
-    marked-distinct : Distinct (markedStore s f)
-    marked-distinct =
-        by-begin Distinct (λ g ps h q. distinct-map g (λ p. record { serial = ap (λ (x : Picture). x .serial .0) (h p .1); surface = ap (λ (x : Picture). x .surface .0) (h p .1) }) ps q) s f store-distinct
-
     -- what step 5 does to the marked store
     tells-before : Tells (markedStore s f) (roomMade s f)
     unfolding roomMade beforeDecoding
     tells-before =
         by-case (Tells (markedStore s f)) (startsOver s f && not (s .ended)) _ _
-        (λ _. by-case (Tells (markedStore s f)) (noPrior s f) _ _ (λ _. tells-cleared (markedStore s f) marked-distinct) (λ _. tells-emptied (markedStore s f) marked-distinct))
-        (λ _. tells-then (markedStore s f) (removed (markedStore s f)) (handWhile (due true (s .limits))) (tells-removed (markedStore s f) marked-distinct) (λ d. tells-while (due true (s .limits)) (removed (markedStore s f) .pics) d))
+        (λ _. by-case (Tells (markedStore s f)) (noPrior s f) _ _ (λ _. tells-cleared (markedStore s f) (marked-distinct s i f)) (λ _. tells-emptied (markedStore s f) (marked-distinct s i f)))
+        (λ _. tells-then (markedStore s f) (removed (markedStore s f)) (handWhile (due true (s .limits))) (tells-removed (markedStore s f) (marked-distinct s i f)) (λ d. tells-while (due true (s .limits)) (removed (markedStore s f) .pics) d))
 
     before-runs : Runs (events (roomMade s f .tail)) (map line (s .store)) (map line (roomMade s f .pics))
     before-runs = rw marked-lines at (tells-before .runs)
@@ -388,7 +391,7 @@ module _ (s : Session) (r : List ℕ) (i : Sound s) (bytes : allB (λ (b : ℕ).
       left-older : All Older (roomMade s f .pics)
       unfolding roomMade
       left-older =
-          all-before Older (λ n p h. h) (startsOver s f && not (s .ended)) (noPrior s f) (s .limits) (markedStore s f)
+          all-before Older (λ p h. h) (startsOver s f && not (s .ended)) (noPrior s f) (s .limits) (markedStore s f)
           (by-begin (All Older) (λ g ps h a. all-map Older Older g (λ p o. rw (h p .1) o) ps a) s f store-older)
 
       other-than : (p : Picture) → Older p → Other p (stored (begunCurrent s f))
@@ -402,7 +405,7 @@ module _ (s : Session) (r : List ℕ) (i : Sound s) (bytes : allB (λ (b : ℕ).
             distinct = distinct-snoc (roomMade s f .pics) (stored (begunCurrent s f)) (tells-before .distinct) (all-more Older _ other-than (roomMade s f .pics) left-older);
             below =
                 all-append (Fine (s .next + 1)) (roomMade s f .pics) (stored (begunCurrent s f) ∷ []) (all-more Older (Fine (s .next + 1)) (λ p o. (omega (arith, o .0 .0), o .0 .1, o .0 .2)) (roomMade s f .pics) left-older) ((omega arith, word, near), tt);
-            named = refs-named (sets s f) (map line (roomMade s f .pics)) (begin-names s f marked-distinct);
+            named = refs-named (sets s f) (map line (roomMade s f .pics)) (begin-names s f (marked-distinct s i f));
             small = omega (arith, i .small, eqb-false (s .next) (missing .0) room);
           }
 
@@ -417,9 +420,9 @@ module _ (s : Session) (r : List ℕ) (i : Sound s) (bytes : allB (λ (b : ℕ).
     good-begin =
         let f = fieldsOf r in
         record {
-          tells = tells-begun s r i z (before-runs f) (marked-distinct f) (begin-clears s f);
+          tells = tells-begun s r i z (before-runs f) (marked-distinct s i f) (begin-clears s f);
           sound = sound-begun f (z .free) (surface-word r bytes) (poc-near s f z) (z .roomy);
-          fit = (record { poc = poc-near s f z; serial = omega (arith, i .small); sets = fit-names (inOrder (sets s f)) (map line (roomMade s f .pics)) left-fit (begin-names s f (marked-distinct f)) }, fit-tail (roomMade s f .tail) _ _ (lines-fit (s .store) store-below) (before-runs f));
+          fit = (record { poc = poc-near s f z; serial = omega (arith, i .small); sets = fit-names (inOrder (sets s f)) (map line (roomMade s f .pics)) left-fit (begin-names s f (marked-distinct s i f)) }, fit-tail (roomMade s f .tail) _ _ (lines-fit (s .store) store-below) (before-runs f));
         }
 
   -- lists

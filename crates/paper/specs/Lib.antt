@@ -20,6 +20,7 @@ pub mod Ledger
 pub mod WholeReply
 pub mod Accounts
 pub mod Statement
+pub mod BySerial
 pub mod OneLine
 pub mod Watch
 pub mod Blame

@@ -12,8 +12,9 @@ use Rattle.paper.specs.declared.Shown.{Shown}
 use Rattle.paper.specs.declared.Found.{Found}
 use Rattle.paper.specs.declared.Found.the-variants.{Nothing, The}
 use Rattle.paper.specs.declared.Limits.{Limits}
-use Rattle.paper.specs.Words.{keep, anyB}
+use Rattle.paper.specs.Words.{keep, anyB, dropFirst, changeFirst}
 use Rattle.paper.specs.State.{isMarked}
+use Rattle.paper.specs.Poc.{eqZ}
 
 -- "A tail is: .. each picture handed out; .. serials thrown away; .. surfaces released. Each part is in the order it
 -- happened"
@@ -59,34 +60,38 @@ unfoldable pub lowest : Found → List Picture → Found
 lowest b [] = b
 lowest b (p ∷ ps) = lowest (cond (p .waiting && below p b) (The p) b) ps
 
+-- it, the picture p that is found: the first that waits with its POC
+abbrev pub isIt : Picture → Picture → Bool
+isIt p q = q .waiting && eqZ (q .poc) (p .poc)
+
 abbrev pub shown : Picture → Shown
 shown p = record { serial = p .serial; surface = p .surface; poc = p .poc }
 
--- "it no longer waits": the picture of that serial
-abbrev pub done : ℕ → Picture → Picture
-done n p =
+-- "it no longer waits
+abbrev pub quieted : Picture → Picture
+quieted p =
     record {
       serial = p .serial;
       surface = p .surface;
       poc = p .poc;
       mark = p .mark;
-      waiting = p .waiting && not (eqb n (p .serial .0));
+      waiting = false;
       count = p .count;
-    }
-
--- "and leaves the store if unmarked". "Leaving the store releases the surface."
-abbrev pub leave : List Picture → Picture → Moved
-leave ps p =
-    record {
-      pics = keep (λ (q : Picture). not (eqb (p .serial .0) (q .serial .0))) ps;
-      tail = record { handed = shown p ∷ []; thrown = []; released = p .surface ∷ [] };
     }
 
 abbrev pub stay : List Picture → Picture → Moved
 stay ps p =
     record {
-      pics = map (done (p .serial .0)) ps;
+      pics = changeFirst (isIt p) quieted ps;
       tail = record { handed = shown p ∷ []; thrown = []; released = [] };
+    }
+
+-- and leaves the store if unmarked". "Leaving the store releases the surface."
+abbrev pub leave : List Picture → Picture → Moved
+leave ps p =
+    record {
+      pics = dropFirst (isIt p) ps;
+      tail = record { handed = shown p ∷ []; thrown = []; released = p .surface ∷ [] };
     }
 
 -- `always`: "each leaving even if marked". Where none waits, nothing happens.

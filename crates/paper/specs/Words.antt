@@ -16,6 +16,15 @@ unfoldable pub anyB : {A : Type 0} → (A → Bool) → List A → Bool
 anyB f [] = false
 anyB f (x ∷ xs) = f x || anyB f xs
 
+-- all but the first of which t holds; and all, that one changed
+unfoldable pub dropFirst : {A : Type 0} → (A → Bool) → List A → List A
+dropFirst t [] = []
+dropFirst t (x ∷ xs) = cond (t x) xs (x ∷ dropFirst t xs)
+
+unfoldable pub changeFirst : {A : Type 0} → (A → Bool) → (A → A) → List A → List A
+changeFirst t f [] = []
+changeFirst t f (x ∷ xs) = cond (t x) (f x ∷ xs) (x ∷ changeFirst t f xs)
+
 -- f 0, f 1, .. f (n - 1)
 unfoldable pub table : {A : Type 0} → (ℕ → A) → ℕ → List A
 table f zero = []

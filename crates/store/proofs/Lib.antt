@@ -6,9 +6,10 @@ pub mod RawPart
 pub mod Walks
 pub mod Moves
 pub mod Kept
+pub mod OneWalk
 pub mod Scans
+pub mod Taken
 pub mod Rounds
-pub mod Passing
 pub mod Gone
 pub mod Ends
 pub mod Saving

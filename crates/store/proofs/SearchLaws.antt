@@ -4,31 +4,19 @@ use mathlib.Core.Bool.{Bool, true, false, cond, _&&_}
 use mathlib.Core.List.{List}
 use Prim.Native.Nat.{ℕ}
 use lib.Dec.{eqb}
-use lib.IntN.{ℤ, pos, negsuc}
+use lib.IntN.{ℤ, pos}
 use mir.Syntax.{Width}
 use mir.Val.{SFits, toZ, ofZ}
 use mir.ValLaws.{toZ-ofZ}
-use borrow.Author.Tests.{eqb-true, eqb-false, eq-eqb, ne-eqb}
+use borrow.Author.Tests.{eqb-true, eqb-false}
 use Rattle.paper.specs.Poc.{modZ, eqZ}
 use Rattle.paper.specs.State.{isMarked}
 use Rattle.paper.specs.Sets.{firstOf, longMatch}
 use Rattle.paper.proofs.Bools.{split}
+use Rattle.paper.proofs.Whole.{eqZ-same, eqZ-diff}
 use Rattle.paper.specs.declared.Picture.{Picture}
 use Rattle.paper.specs.declared.Wish.{Wish}
 use Rattle.store.specs.Walks.{anyAt, lowAt}
-
-eqZ-refl : (a : ℤ) → eqZ a a ≡ true
-eqZ-refl (pos a) = eq-eqb a a refl
-eqZ-refl (negsuc a) = eq-eqb a a refl
-
-eqZ-same : (a b : ℤ) → a ≡ b → eqZ a b ≡ true
-eqZ-same a b e = rw (← e) (eqZ-refl a)
-
-eqZ-diff : (a b : ℤ) → (a ≡ b → ⊥) → eqZ a b ≡ false
-eqZ-diff (pos a) (pos b) n = ne-eqb a b (λ e. n (ap pos e))
-eqZ-diff (pos a) (negsuc b) n = refl
-eqZ-diff (negsuc a) (pos b) n = refl
-eqZ-diff (negsuc a) (negsuc b) n = ne-eqb a b (λ e. n (ap negsuc e))
 
 -- the machine's test of two signed numbers, on their bits, is the test of the numbers
 pub eqZ-bits : (w : Width) (a b : ℤ) → SFits w a → SFits w b → eqb (ofZ w a) (ofZ w b) ≡ eqZ a b

@@ -1,49 +1,29 @@
 -- Handing out: a walk, a picture handed out, and round after round.
-use Prim.Native.Nat.{ℕ, _+_, _≤_, _<_}
+use Prim.Native.Nat.{ℕ, _+_}
 use mathlib.Core.Path.{_≡_}
 use mathlib.Core.Bool.{Bool, true, false, cond, not, _&&_, _||_}
-use mathlib.Core.List.{List, map}
+use mathlib.Core.List.{List}
 use lib.ListN.{length}
-use lib.IntN.{ℤ}
 use lib.Dec.{eqb, ltb, leb}
-use lib.Signed.{ltZ}
 use Rattle.paper.specs.Words.{keep, anyB}
-use Rattle.paper.specs.Output.{still, turns, handOut, due, lowest, leave, stay, done}
+use Rattle.paper.specs.Output.{still, turns, handOut, due, leave, stay}
 use Rattle.paper.specs.Output as Output
 use Rattle.paper.specs.declared.Picture.{Picture}
-use Rattle.paper.specs.declared.Serial.{Serial}
 use Rattle.paper.specs.declared.Limits.{Limits}
-use Rattle.paper.specs.declared.Found.{Found}
-use Rattle.paper.specs.declared.Found.the-variants as Found
-use Rattle.store.specs.Walks.{lateBy, other}
+use Rattle.store.specs.Walks.{lateBy}
 use Rattle.store.specs.StoreWords.{stored, NormalForm}
-use Rattle.store.specs.Places.{placeAt, front}
+use Rattle.store.specs.Places.{front}
 use Rattle.store.specs.Tails.{HoldsTail, waits}
+use Rattle.store.specs.OneWalk.{lowerBy, oneWalk}
 use Rattle.store.specs.declared.Moved.{Moved}
-use Rattle.store.specs.declared.bumping.Lowest.{Lowest}
-use Rattle.store.specs.declared.bumping.Lowest.the-variants.{Nothing, At}
+use Rattle.store.specs.declared.bumping.Lowest.the-variants.{Nothing}
 use Rattle.store.specs.declared.bumping.Scan.{Scan}
-use Rattle.store.specs.declared.bumping.Turn.{Turn}
 use Rattle.store.specs.declared.bumping.Rule.{Rule}
 use Rattle.store.specs.declared.bumping.Rule.the-variants.{All, Due}
-
--- the paper's picture for each case: the lowest of those in these places
-abbrev pub foundIn : List Picture → Lowest → Found
-foundIn ps Nothing = Found.Nothing
-foundIn ps (At i z) = Found.The (placeAt ps i)
-
--- a place among the first n, with its POC
-abbrev pub Within : List Picture → ℕ → Lowest → Type 0
-Within ps n Nothing = n ≡ n
-Within ps n (At i z) = (i < n) × (z ≡ placeAt ps i .poc)
 
 -- one picture more
 abbrev pub nothingSeen : Scan
 nothingSeen = record { waiting = 0; late = false; lowest = Nothing }
-
-abbrev pub lowerBy : Lowest → ℕ → ℤ → Lowest
-lowerBy Nothing i z = At i z
-lowerBy (At j y) i z = cond (ltZ z y) (At i z) (At j y)
 
 abbrev pub seenBy : Scan → ℕ → Picture → ℕ → Scan
 seenBy c i p latency =
@@ -59,8 +39,7 @@ seenBy c i p latency =
 pub record Scans (ps : List Picture) (n latency : ℕ) (x : Scan) : Type 0 where
   pub waiting : x .waiting ≡ length (keep waits (front ps n))
   pub late : x .late ≡ anyB (lateBy latency) (front ps n)
-  pub found : lowest Found.Nothing (front ps n) ≡ foundIn ps (x .lowest)
-  pub within : Within ps n (x .lowest)
+  pub lowest : x .lowest ≡ oneWalk (front ps n)
 
 -- "waiting > reorder; or latency ≠ 0 and a waiting picture's count ≥ latency"
 abbrev pub dueBy : Limits → ℕ → Bool → Bool
@@ -93,15 +72,6 @@ turnsBy r ps = turns (length ps) (turnBy r) ps
 -- "it no longer waits, and leaves the store if unmarked", or always
 abbrev pub handsOut : Bool → Picture → List Picture → Output.Moved
 handsOut leaves p ps = cond leaves (leave ps p) (stay ps p)
-
--- the pictures of a serial have left, or stayed and no longer wait
-abbrev pub withoutIt : Bool → Serial → List Picture → List Picture
-withoutIt leaves n ps = cond leaves (keep (other n) ps) (map (done (n .0)) ps)
-
-pub record Bumps (ps : List Picture) (n : ℕ) (serial : Serial) (leaves : Bool) (latency : ℕ) (r : Turn) : Type 0 where
-  pub pics : front (r .places) (r .len) ≡ withoutIt leaves serial (front ps n)
-  pub few : r .len ≤ n
-  pub scan : Scans (r .places) (r .len) latency (r .scan)
 
 -- what a call has done to the words that a store is lent in: the pictures left in it, and the whole tail; a normal form
 -- is kept

@@ -1,7 +1,7 @@
 -- A store by value: sixteen places of picture records, and how many of them are used.
-use Prim.Native.Nat.{ℕ, min}
+use Prim.Native.Nat.{ℕ, zero, suc, min}
 use mathlib.Core.Bool.{Bool, cond}
-use mathlib.Core.List.{List}
+use mathlib.Core.List.{List, [], _∷_}
 use lib.ListN.{getD, take}
 use Rattle.paper.specs.Words.{table}
 use Rattle.paper.specs.declared.Picture.{Picture}
@@ -17,6 +17,12 @@ placeAt ps i = getD ps i blank
 -- those at the first n places
 abbrev pub front : List Picture → ℕ → List Picture
 front ps n = table (placeAt ps) n
+
+-- all but the one at place i: those behind it move up
+unfoldable pub withoutAt : {A : Type 0} → ℕ → List A → List A
+withoutAt i [] = []
+withoutAt zero (x ∷ xs) = xs
+withoutAt (suc i) (x ∷ xs) = x ∷ withoutAt i xs
 
 -- the stored pictures, in the order they came; a length over 16 counts as 16
 abbrev pub storedIn : Store → List Picture

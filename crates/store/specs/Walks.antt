@@ -1,8 +1,8 @@
 -- What a walk over the stored pictures looks for or does, as tests and changes of one picture.
-use mathlib.Core.Bool.{Bool, false, cond, not, _&&_}
+use mathlib.Core.Bool.{Bool, false, cond, _&&_}
 use mathlib.Core.List.{List, [], _∷_}
 use Prim.Native.Nat.{ℕ, _^_, min}
-use lib.Dec.{eqb, leb}
+use lib.Dec.{leb}
 use lib.IntN.{ℤ, pos}
 use Rattle.paper.specs.Poc.{modZ, eqZ}
 use Rattle.paper.specs.State.{isMarked, isShortTerm}
@@ -54,10 +54,6 @@ abbrev pub memberOf : Found → Serial
 memberOf Nothing = missing
 memberOf (The p) = p .serial
 
--- another picture than that of serial n
-abbrev pub other : Serial → Picture → Bool
-other n q = not (eqb (n .0) (q .serial .0))
-
 abbrev pub serialOf : Picture → Serial
 serialOf p = p .serial
 
@@ -74,18 +70,6 @@ blank =
       mark = Unmarked;
       waiting = false;
       count = 0;
-    }
-
--- "it no longer waits"
-abbrev pub quieted : Picture → Picture
-quieted p =
-    record {
-      serial = p .serial;
-      surface = p .surface;
-      poc = p .poc;
-      mark = p .mark;
-      waiting = false;
-      count = p .count;
     }
 
 -- what is done to a picture that is read: nothing, "every stored count rises by 1", "IRAP with NoRaslOutputFlag unmarks

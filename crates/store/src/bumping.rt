@@ -2,12 +2,14 @@
 ghost use mathlib.Core.Path.{_≡_};
 ghost use mathlib.Core.Bool.{not, _||_};
 ghost use lib.Signed.{ltZ};
-ghost use Prim.Native.Nat.{_+_, _≤_, _<_};
+ghost use Prim.Native.Nat.{_+_, _-_, _≤_, _<_};
 ghost use Rattle.paper.specs.Output.{andThen, shown};
 ghost use Rattle.paper.specs.State.{isMarked};
 ghost use Rattle.store.specs.Tails.{GoodReleased, startedIn, HoldsMoved};
-ghost use Rattle.store.specs.Bumps.{Scans, nothingSeen, lowerBy, seenBy, dueBy, dueScan, dueNow, alwaysBy};
-ghost use Rattle.store.specs.Bumps.{latencyBy, turnsBy, Bumps};
+ghost use Rattle.store.specs.Places.{front, withoutAt};
+ghost use Rattle.store.specs.OneWalk.{lowerBy};
+ghost use Rattle.store.specs.Bumps.{Scans, nothingSeen, seenBy, dueBy, dueScan, dueNow, alwaysBy};
+ghost use Rattle.store.specs.Bumps.{latencyBy, turnsBy};
 use crate::Handed;
 use crate::Moved;
 use crate::Released;
@@ -17,7 +19,6 @@ use crate::pictures::end_waiting;
 use crate::pictures::is_marked;
 use paper::Limits;
 use paper::Picture;
-use paper::Serial;
 use paper::Shown;
 
 // The lowest waiting picture: its place and its POC, of two with one POC the earlier stored.
@@ -38,13 +39,6 @@ pub struct Scan {
 pub enum Rule {
     All,
     Due(Limits, bool),
-}
-
-// A store after one picture is handed out, and what a walk over it finds.
-pub struct Turn {
-    pub places: [Picture; Store::CAPACITY],
-    pub len: usize,
-    pub scan: Scan,
 }
 
 // Nothing seen yet.
@@ -188,43 +182,25 @@ fn shown_of(p: Picture) -> Shown
     }
 }
 
-// The pictures of a serial are handed out, of the first n ("bumping", C.5.2.4): they leave, or stay and no longer wait.
-// The walk sees the others.
-fn bump(
-    ps: [Picture; Store::CAPACITY],
-    n: usize,
-    serial: Serial,
-    leaves: bool,
-    latency: u32,
-) -> Turn
-    requires { ⌜ n ≤ 16 ⌝ }
-    ensures { λ r. ⌜ Bumps ps n serial leaves latency r ⌝ }
+// The first n pictures without the one at a place: those behind it move up.
+fn remove(ps: [Picture; Store::CAPACITY], n: usize, at: usize) -> [Picture; Store::CAPACITY]
+    requires { ⌜ (n ≤ 16) × (at < n) ⌝ }
+    ensures { λ r. ⌜ front r (n - 1) ≡ withoutAt at (front ps n) ⌝ }
 {
     let mut places = ps;
-    let mut scan = nothing_seen();
-    let mut k: usize = 0;
-    let mut i: usize = 0;
+    let mut i = at + 1;
     while i < n {
         let p = places[i];
-        let x = p.serial;
-        let is = serial.0 == x.0;
-        if !(is & leaves) {
-            let q = end_waiting(p, is);
-            scan = seen(scan, k, q, latency);
-            places[k] = q;
-            k += 1;
-        }
+        places[i - 1] = p;
         i += 1;
     }
-    Turn {
-        places,
-        len: k,
-        scan,
-    }
+    places
 }
 
-// Pictures are handed out by a rule while one waits and is due, from what a walk over the first n found on: as many
-// turns as are stored, which is enough, since a turn hands one out or is the last (C.5.2.2, C.5.2.3).
+// Pictures are handed out by a rule while one waits and is due, from what a walk over the first n found on ("bumping",
+// C.5.2.4): each at the place that the walk found, where it leaves, or stays and no longer waits. As many turns as are
+// stored are enough, since a turn hands one out or is the last (C.5.2.2, C.5.2.3). There is another walk only where
+// another may be due: one fewer waits, and none is late that was not.
 pub(crate) fn bump_as_needed(
     ps: [Picture; Store::CAPACITY],
     n: usize,
@@ -251,21 +227,24 @@ pub(crate) fn bump_as_needed(
             break;
         }
         let p = places[at];
-        let serial = p.serial;
         let surface = p.surface;
-        let goes = leaves(rule, p);
         let k = handed.len;
         handed.items[k] = shown_of(p);
         handed.len = k + 1;
-        if goes {
+        if leaves(rule, p) {
             let j = released.len;
             released.items[j] = surface;
             released.len = j + 1;
+            places = remove(places, len, at);
+            len -= 1;
+        } else {
+            places[at] = end_waiting(p);
         }
-        let t = bump(places, len, serial, goes, latency);
-        places = t.places;
-        len = t.len;
-        c = t.scan;
+        c.waiting -= 1;
+        if !is_due(rule, c, len) {
+            break;
+        }
+        c = find_lowest_poc_for_bumping(places, len, latency);
         i += 1;
     }
     Moved::of(places, len, handed, Thrown::none(), released)

@@ -1,7 +1,7 @@
 // Layer 2, the stored pictures: searches, marks, handing out, removal and emptying (8.3.2, C.5.2). It knows nothing of
 // records and replies. A store is sixteen picture records and how many are used; it is worked on by value. Only `words`
-// knows the words that a host lends a store in: any words may be given, a length over 16 counts as 16, and a picture is
-// told by its serial.
+// knows the words that a host lends a store in: any words may be given, and a length over 16 counts as 16. Sets and
+// marks tell a picture by its serial, handing out by the place where it was found.
 mod bumping;
 mod lent;
 mod marks;

@@ -9,7 +9,8 @@ ghost use Rattle.paper.specs.State.{isMarked, isShortTerm, countLimit};
 ghost use Rattle.paper.specs.Step.{heldBy};
 ghost use Rattle.paper.specs.Sets.{marked};
 ghost use Rattle.paper.specs.Calls.{raised};
-ghost use Rattle.store.specs.Walks.{anyAt, lowAt, shortAt, passing, blank, changeBy, quieted};
+ghost use Rattle.paper.specs.Output.{quieted};
+ghost use Rattle.store.specs.Walks.{anyAt, lowAt, shortAt, passing, blank, changeBy};
 use derivation::modular::low_bits;
 use paper::Mark;
 use paper::Picture;
@@ -182,13 +183,10 @@ pub(crate) fn read_as(p: Picture, x: Change) -> Picture
     }
 }
 
-// The picture, that no longer waits if it is the one handed out.
-pub(crate) fn end_waiting(p: Picture, is: bool) -> Picture
-    ensures { λ r. ⌜ r ≡ cond is (quieted p) p ⌝ }
+// The picture, that no longer waits.
+pub(crate) fn end_waiting(p: Picture) -> Picture
+    ensures { λ r. ⌜ r ≡ quieted p ⌝ }
 {
-    if !is {
-        return p;
-    }
     let serial = p.serial;
     let surface = p.surface;
     let mark = p.mark;

@@ -1,5 +1,4 @@
 pub mod Walks
-pub mod Pocs
 pub mod Bytes
 pub mod PartLaws
 pub mod ReplyLaws

@@ -1,6 +1,6 @@
 -- Numbers are equal where their bits are.
 use mir.Syntax.{w32}
-use Rattle.watch.proofs.Pocs.{eqZ-bits}
+use Rattle.store.proofs.SearchLaws.{eqZ-bits}
 use Rattle.watch.proofs.line.same_poc.Statement.{statement}
 use Rattle.watch.proofs.line.same_poc.Tie as tie
 
