@@ -12,8 +12,9 @@ use Rattle.paper.specs.declared.Picture.{Picture}
 use Rattle.paper.specs.declared.Found.{Found}
 use Rattle.paper.specs.declared.Found.the-variants.{Nothing, The}
 use Rattle.paper.specs.Words.{keep, anyB, dropFirst, changeFirst}
+use Rattle.paper.specs.Poc.{eqZ}
 use Rattle.paper.specs.Output.{below, lowest, isIt}
-use Rattle.paper.proofs.Whole.{ltZ-true, ltZ-is, ltZ-apart, eqZ-refl, eqZ-true}
+use Rattle.paper.proofs.Whole.{ltZ-true, ltZ-is, ltZ-apart, eqZ-refl, eqZ-same, eqZ-true}
 use Rattle.paper.proofs.Bools.{both, left, right, split, not-both, or-left, or-right, by-case}
 use Rattle.paper.proofs.Every.{All, Mem}
 
@@ -99,6 +100,13 @@ module _ {A : Type 0} where
 
 -- ---- the lowest that waits
 
+-- what is handed out waits, and has that POC
+pub it-waits : (p q : Picture) → isIt p q ≡ true → q .waiting ≡ true
+it-waits p q i = left (q .waiting) _ i
+
+it-poc : (p q : Picture) → isIt p q ≡ true → q .poc ≡ p .poc
+it-poc p q i = eqZ-true (q .poc) (p .poc) (right (q .waiting) _ i)
+
 -- lower than one that is lower
 below-more : (p q : Picture) (b : Found) → ltZ (p .poc) (q .poc) ≡ true → below q b ≡ true → below p b ≡ true
 below-more p q Nothing l u = refl
@@ -120,16 +128,16 @@ lowest-is b (q ∷ ps) p e =
     here : (q .waiting && below q b) ≡ true → p ≡ q → First (isIt p) p (q ∷ ps) × (below p b ≡ true)
     here t s = (inl (rw s (both (left (q .waiting) _ t) (eqZ-refl (q .poc))), s), rw s (right (q .waiting) _ t))
 
+    higher : ltZ (p .poc) (q .poc) ≡ true → isIt p q ≡ false
+    higher l = split (isIt p q) (λ i. not-both (eqZ (q .poc) (p .poc)) (eqZ-same (q .poc) (p .poc) (it-poc p q i)) (ltZ-apart (p .poc) (q .poc) l)) (λ i. i)
+
     later : (q .waiting && below q b) ≡ true → First (isIt p) p ps → ltZ (p .poc) (q .poc) ≡ true → First (isIt p) p (q ∷ ps) × (below p b ≡ true)
-    later t f l = (inr (rw (ltZ-apart (p .poc) (q .poc) l) (mathlib.Core.Bool.and-false (q .waiting)), f), below-more p q b l (right (q .waiting) _ t))
+    later t f l = (inr (higher l, f), below-more p q b l (right (q .waiting) _ t))
 
     passed : (q .waiting && below q b) ≡ false → below p b ≡ true → isIt p q ≡ false
     passed t u =
         split (isIt p q)
-        (λ i.
-        let s : q .poc ≡ p .poc = eqZ-true (q .poc) (p .poc) (right (q .waiting) _ i) in
-        not-both (q .waiting && below q b) (both (left (q .waiting) _ i) (same-below b s u)) t)
-        (λ i. i)
+        (λ i. not-both (q .waiting && below q b) (both (it-waits p q i) (same-below b (it-poc p q i) u)) t) (λ i. i)
       where
         same-below : (b : Found) → q .poc ≡ p .poc → below p b ≡ true → below q b ≡ true
         same-below Nothing s u = refl

@@ -24,7 +24,7 @@ use Rattle.paper.proofs.Bools.{both, left, right, split, not-both, or-r
 use Rattle.paper.proofs.Events.{Runs, runs-append, runs-join}
 use Rattle.paper.proofs.Every.{All, Mem, all-at, all-keep, all-map, all-more, all-true, any-mem, keep-all, keep-by, map-by}
 use Rattle.paper.proofs.Apart.{Other, Distinct, OtherSerial, Serials, Told, told-apart, pairs-keep, distinct-map, serials, serial-flip, flip}
-use Rattle.paper.proofs.Firsts.{First, first-mem, first-holds, lowest-first}
+use Rattle.paper.proofs.Firsts.{First, first-mem, first-holds, it-waits, lowest-first}
 
 pub record Tells (ps : List Picture) (m : Moved) : Type 0 where
   pub runs : Runs (events (m .tail)) (map line ps) (map line (m .pics))
@@ -168,7 +168,7 @@ module _ (p : Picture) (ps : List Picture) (d : Distinct ps) (f : First (isIt p)
   found-in = first-mem (isIt p) p ps f
 
   waits-in : p .waiting ≡ true
-  waits-in = left (p .waiting) _ (first-holds (isIt p) p ps f)
+  waits-in = it-waits p p (first-holds (isIt p) p ps f)
 
   tells-leave : Tells ps (leave ps p)
   tells-leave =
