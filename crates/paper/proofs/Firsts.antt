@@ -29,7 +29,7 @@ module _ {A : Type 0} where
   first-mem t x (y ∷ ys) (inl f) = inl (f .1)
   first-mem t x (y ∷ ys) (inr f) = inr (first-mem t x ys (f .1))
 
-  pub first-holds : (t : A → Bool) (x : A) (xs : List A) → First t x xs → t x ≡ true
+  first-holds : (t : A → Bool) (x : A) (xs : List A) → First t x xs → t x ≡ true
   first-holds t x [] f = absurd f
   first-holds t x (y ∷ ys) (inl f) = rw (f .1) (f .0)
   first-holds t x (y ∷ ys) (inr f) = first-holds t x ys (f .1)
@@ -101,8 +101,11 @@ module _ {A : Type 0} where
 -- ---- the lowest that waits
 
 -- what is handed out waits, and has that POC
-pub it-waits : (p q : Picture) → isIt p q ≡ true → q .waiting ≡ true
+it-waits : (p q : Picture) → isIt p q ≡ true → q .waiting ≡ true
 it-waits p q i = left (q .waiting) _ i
+
+pub waits-first : (p : Picture) (ps : List Picture) → First (isIt p) p ps → p .waiting ≡ true
+waits-first p ps f = it-waits p p (first-holds (isIt p) p ps f)
 
 it-poc : (p q : Picture) → isIt p q ≡ true → q .poc ≡ p .poc
 it-poc p q i = eqZ-true (q .poc) (p .poc) (right (q .waiting) _ i)

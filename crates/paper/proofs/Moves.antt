@@ -24,7 +24,7 @@ use Rattle.paper.proofs.Bools.{both, left, right, split, not-both, or-r
 use Rattle.paper.proofs.Events.{Runs, runs-append, runs-join}
 use Rattle.paper.proofs.Every.{All, Mem, all-at, all-keep, all-map, all-more, all-true, any-mem, keep-all, keep-by, map-by}
 use Rattle.paper.proofs.Apart.{Other, Distinct, OtherSerial, Serials, Told, told-apart, pairs-keep, distinct-map, serials, serial-flip, flip}
-use Rattle.paper.proofs.Firsts.{First, first-mem, first-holds, it-waits, lowest-first}
+use Rattle.paper.proofs.Firsts.{First, first-mem, waits-first, lowest-first}
 
 pub record Tells (ps : List Picture) (m : Moved) : Type 0 where
   pub runs : Runs (events (m .tail)) (map line ps) (map line (m .pics))
@@ -167,14 +167,11 @@ module _ (p : Picture) (ps : List Picture) (d : Distinct ps) (f : First (isIt p)
   found-in : Mem p ps
   found-in = first-mem (isIt p) p ps f
 
-  waits-in : p .waiting ≡ true
-  waits-in = it-waits p p (first-holds (isIt p) p ps f)
-
   tells-leave : Tells ps (leave ps p)
   tells-leave =
       rw (drop-others (isIt p) p ps (serials ps d) f)
       (record {
-        runs = runs-append (hands p ps d found-in waits-in) (frees p ps d found-in);
+        runs = runs-append (hands p ps d found-in (waits-first p ps f)) (frees p ps d found-in);
         distinct = pairs-keep Other (other p) ps d;
       })
 
@@ -182,7 +179,7 @@ module _ (p : Picture) (ps : List Picture) (d : Distinct ps) (f : First (isIt p)
   tells-stay =
       rw (change-done (isIt p) p ps (serials ps d) f)
       (record {
-        runs = rw (map-map line (done p) ps, ← map-map (off (p .serial .0)) line ps) (hands p ps d found-in waits-in);
+        runs = rw (map-map line (done p) ps, ← map-map (off (p .serial .0)) line ps) (hands p ps d found-in (waits-first p ps f));
         distinct = distinct-map (done p) (λ q. record { serial = refl; surface = refl }) ps d;
       })
 

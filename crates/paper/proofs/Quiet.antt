@@ -12,7 +12,7 @@ use Rattle.paper.specs.State.{isMarked}
 use Rattle.paper.specs.Output.{Moved, still, turns, below, lowest, leave, stay, quieted, isIt, handFound, handOut, cleared, emptied, handWhile}
 use Rattle.paper.specs.declared.Found.the-variants.{Nothing, The}
 use Rattle.paper.proofs.Bools.{split, by-case}
-use Rattle.paper.proofs.Firsts.{First, first-holds, it-waits, drop-keep, change-keep, lowest-first}
+use Rattle.paper.proofs.Firsts.{First, waits-first, drop-keep, change-keep, lowest-first}
 
 -- nothing is thrown away by a turn
 hand-throws : (always : Bool) (ps : List Picture) → handOut always ps .tail .thrown ≡ []
@@ -63,10 +63,6 @@ fewer f (p ∷ ps) =
     split (f p)
     (λ e. rw e (split (p .waiting) (λ w. rw w (omega (arith, fewer f ps))) (λ w. rw w (fewer f ps))))
     (λ e. rw e (split (p .waiting) (λ w. rw w (omega (arith, fewer f ps))) (λ w. rw w (fewer f ps))))
-
--- what is found waits
-pub waits-first : (p : Picture) (ps : List Picture) → First (isIt p) p ps → p .waiting ≡ true
-waits-first p ps f = it-waits p p (first-holds (isIt p) p ps f)
 
 -- a turn that hands one out leaves one fewer that wait
 pub one-fewer : (b : Bool) (p : Picture) (ps : List Picture) → First (isIt p) p ps → suc (length (waitings (cond b (leave ps p) (stay ps p) .pics))) ≡ length (waitings ps)

@@ -22,7 +22,7 @@ use Rattle.paper.proofs.Whole.{ltZ-true, ltZ-false, ltZ-apart, eqZ-same}
 use Rattle.store.specs.Places.{placeAt}
 use Rattle.store.specs.Tails.{waits}
 use Rattle.store.specs.OneWalk.{lowerBy, walkFrom, oneWalk, leastFrom, minByPoc, position, placed, twoWalks, hasItsPoc, rustWalks}
-use Rattle.store.specs.OneWalk.{Leads, NoneWaits, NoneBefore, Item3}
+use Rattle.store.specs.OneWalk.{Leads, NoneWaits, NoneBefore, PocsDiffer, Item3}
 use Rattle.store.specs.declared.bumping.Lowest.{Lowest}
 use Rattle.store.specs.declared.bumping.Lowest.the-variants.{Nothing, At}
 
@@ -258,6 +258,19 @@ rust-only ps i z e = go (minByPoc (keep waits ps)) (rw e at (one-poc 0 ps))
         let k : position (hasItsPoc p) ps ≡ i = cc in
         λ j lt. rw o (position-before (hasItsPoc p) ps j (omega (arith, k)))
 
+rust-domain : (ps : List Picture) → PocsDiffer ps → rustWalks ps ≡ oneWalk ps
+rust-domain ps d = go (oneWalk ps) refl
+  where
+    go : (x : Lowest) → oneWalk ps ≡ x → rustWalks ps ≡ x
+    go Nothing e = rust-none ps e
+    go (At i z) e =
+        let a = found ps i z e in
+        rust-same ps i z e
+        (λ j lt.
+        split (eqZ (placeAt ps j .poc) z)
+        (λ q. absurd (omega (arith, lt, d j i (omega (arith, a .stands)) (a .stands) (ap (λ (y : ℤ). eqZ (placeAt ps j .poc) y) (a .poc) ∙ q))))
+        (λ q. q))
+
 pub item-3 : Item3
 item-3 =
     record {
@@ -269,6 +282,7 @@ item-3 =
       rust-none = rust-none;
       rust-same = rust-same;
       rust-only = rust-only;
+      rust-domain = rust-domain;
     }
 
 -- ---- examples, by computing

@@ -82,6 +82,11 @@ NoneWaits ps = (j : ℕ) → j < length ps → placeAt ps j .waiting ≡ false
 abbrev pub NoneBefore : List Picture → ℕ → ℤ → Type 0
 NoneBefore ps i z = (j : ℕ) → j < i → eqZ (placeAt ps j .poc) z ≡ false
 
+-- "stored POCs pairwise different", of the compared domain
+abbrev pub PocsDiffer : List Picture → Type 0
+PocsDiffer ps =
+    (i j : ℕ) → i < length ps → j < length ps → eqZ (placeAt ps i .poc) (placeAt ps j .poc) ≡ true → i ≡ j
+
 pub record Item3 : Type 0 where
   -- "Find both in one walk. The answer stays the same on every store, ties included"
   pub same : (ps : List Picture) → oneWalk ps ≡ twoWalks ps
@@ -95,3 +100,4 @@ pub record Item3 : Type 0 where
   pub rust-none : (ps : List Picture) → oneWalk ps ≡ Nothing → rustWalks ps ≡ Nothing
   pub rust-same : (ps : List Picture) (i : ℕ) (z : ℤ) → oneWalk ps ≡ At i z → NoneBefore ps i z → rustWalks ps ≡ At i z
   pub rust-only : (ps : List Picture) (i : ℕ) (z : ℤ) → oneWalk ps ≡ At i z → rustWalks ps ≡ At i z → NoneBefore ps i z
+  pub rust-domain : (ps : List Picture) → PocsDiffer ps → rustWalks ps ≡ oneWalk ps
