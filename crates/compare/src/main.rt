@@ -1,5 +1,7 @@
 // `compare FIRST SECOND`: the differences between two files of replies (document 02, Item 5), one line for each reply
 // number at which they differ. It reads both files in blocks with constant memory.
+#![tactic(auto)]
+
 mod pair;
 
 ghost use Rattle.std.specs.Prelude.{◌≡◌, false, ◌+◌, ◌≤◌, length, drop};
@@ -18,7 +20,7 @@ const OUTPUT: usize = 65536;
 const LINE: usize = 49;
 
 // The number of the next pair, how many bytes were taken of each file, and how many the lines have.
-#[derive(Drop)]
+#[derive(Clone, Copy)]
 struct Compared {
     number: u64,
     first: usize,
@@ -28,7 +30,7 @@ struct Compared {
 
 // The number of the next pair, the two files, how many bytes of lines were handed over to be written, whether the run
 // goes on, whether they could not be written, and whether replies are left that have no number.
-#[derive(Drop)]
+#[derive(Clone, Copy)]
 struct State {
     number: u64,
     first: Feed,

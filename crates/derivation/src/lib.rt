@@ -1,4 +1,6 @@
 // The derivation layer: what a record's numbers say, by themselves. It knows of no store and of no record's bytes.
+#![tactic(auto)]
+
 pub mod members;
 pub mod modular;
 pub mod nal;

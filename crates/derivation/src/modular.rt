@@ -45,7 +45,7 @@ pub fn low_bits(k: u8, poc: i32) -> u32
 }
 
 // A whole number, if an i32 holds it.
-#[derive(Drop)]
+#[derive(Clone, Copy)]
 pub enum Narrow {
     In(i32),
     Outside,

@@ -8,7 +8,7 @@ ghost use Rattle.derivation.specs.Classes.{prev_in};
 ghost use Rattle.derivation.specs.declared.nal.NalClass.{NalClass};
 
 // The class of a NAL type; `Refused` is a type that is not taken.
-#[derive(Drop)]
+#[derive(Clone, Copy)]
 pub enum NalClass {
     Idr,
     Bla,

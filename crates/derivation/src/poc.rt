@@ -9,7 +9,7 @@ use crate::modular::Narrow;
 use paper::Prev;
 
 // MSB and POC, or that one of them lies outside i32.
-#[derive(Drop)]
+#[derive(Clone, Copy)]
 pub enum Poc {
     Val { msb: i32, poc: i32 },
     Outside,

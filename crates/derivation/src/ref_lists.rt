@@ -9,7 +9,7 @@ use paper::Serial;
 
 // The sizes of the sets that lists draw on, StCurrBefore, StCurrAfter and LtCurr. Their members lie one behind the
 // other in a run of serial numbers.
-#[derive(Drop)]
+#[derive(Clone, Copy)]
 pub struct Refs {
     pub before: u8,
     pub after: u8,
@@ -17,7 +17,7 @@ pub struct Refs {
 }
 
 // A reference list.
-#[derive(Drop)]
+#[derive(Clone, Copy)]
 pub struct RefList {
     pub items: [Serial; CAPACITY],
     pub len: usize,

@@ -10,7 +10,7 @@ use paper::{LongEntry, ShortEntry, Wish};
 use wire::flag_bytes;
 
 // What an entry asks for, or that its POC lies outside i32.
-#[derive(Drop)]
+#[derive(Clone, Copy)]
 pub enum Wanted {
     Is(Wish),
     Outside,

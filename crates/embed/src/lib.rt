@@ -2,6 +2,8 @@
 // three runs of words of 32 bits, and that of a pool three words of 64 bits beside them: what they hold is no business
 // of the host's, and any words are taken as some session and some pool, so that no value of them does harm. A call
 // changes them where they stand.
+#![tactic(auto)]
+
 ghost use Rattle.std.specs.Prelude.{◌≡◌, ◌+◌, ◌*◌, replicate};
 ghost use Rattle.paper.specs.State.{fresh as freshSession};
 ghost use Rattle.session.specs.View.{memory, session_in};

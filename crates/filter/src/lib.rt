@@ -1,5 +1,7 @@
 // Programs that answer each whole message of standard input on standard output: what a turn of such a program gives,
 // and, in specs and proofs, the laws of its turns and of its run. The machine that answers is the program's own.
+#![tactic(auto)]
+
 ghost use Rattle.std.specs.Prelude.{◌≡◌, true, ◌-◌};
 ghost use Rattle.filter.specs.Turns.{fed_by, gone, Went};
 
@@ -7,7 +9,7 @@ use stream::Read;
 
 // How many bytes wait at the start of the input buffer, how many bytes of answers were handed over to be written,
 // whether the run goes on, and whether standard input could not be read or standard output not be written.
-#[derive(Drop)]
+#[derive(Clone, Copy)]
 pub struct After {
     pub held: usize,
     pub made: usize,
@@ -17,7 +19,7 @@ pub struct After {
 }
 
 // How many bytes of messages were answered, and how many their answers have.
-#[derive(Drop)]
+#[derive(Clone, Copy)]
 pub struct Answered {
     pub taken: usize,
     pub made: usize,

@@ -1,5 +1,7 @@
 // Records and replies in a stream of bytes: where the first ends, whether a reply is whole, and what its reader carries
 // on.
+#![tactic(auto)]
+
 mod carried;
 pub mod kinds;
 pub mod records;

@@ -11,7 +11,7 @@ use paper::{Limits, LongEntry, ShortEntry, Surface};
 use wire::flag_bytes;
 
 // The fields of a begin before its entries.
-#[derive(Drop)]
+#[derive(Clone, Copy)]
 pub struct BeginFields {
     pub nal: u8,
     pub tid: u8,
@@ -24,7 +24,7 @@ pub struct BeginFields {
 }
 
 // What a lists record says of one list, but for its entry bytes.
-#[derive(Drop)]
+#[derive(Clone, Copy)]
 pub struct Ask {
     pub uses: bool,
     pub active: u8,
@@ -33,7 +33,7 @@ pub struct Ask {
 
 // What a lists record says before its entry bytes: its slice type, its flags, whether the current picture is itself a
 // candidate, and what it says of list 0 and of list 1.
-#[derive(Drop)]
+#[derive(Clone, Copy)]
 pub struct SliceFields {
     pub slice: u8,
     pub flags: u8,

@@ -1,6 +1,8 @@
 // `ledger RECORDS REPLIES`: checks from a file of records and a file of replies alone that no frame was read after it
 // was given back (demand 3 of document 01). It trusts nothing of the replies, reads both files in blocks with constant
 // memory, and says `kept` or the first reply that breaks a part.
+#![tactic(auto)]
+
 mod text;
 
 ghost use Rattle.std.specs.Prelude.{◌≡◌, ◌≤◌, length};
@@ -18,7 +20,7 @@ const INPUT: usize = 131072;
 // The book, how many exchanges broke nothing, the two files, the part that the next exchange breaks, the picture and
 // the surface that it does so with, how many bytes are told of a record or reply that is not whole, and whether the run
 // goes on.
-#[derive(Drop)]
+#[derive(Clone, Copy)]
 struct State {
     book: Book,
     number: u64,
@@ -32,7 +34,7 @@ struct State {
 
 // What is done where no whole record or no whole reply is left: one of the files is read on, or the run ends with a
 // part, or with 0.
-#[derive(Drop)]
+#[derive(Clone, Copy)]
 enum Move {
     Records,
     Replies,

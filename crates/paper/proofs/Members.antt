@@ -1,6 +1,6 @@
 -- The sets of a begun picture name missing entries and pictures that are still stored after step 5.
 use Prim.Native.Nat.{ℕ, zero, suc}
-use mathlib.Core.Path.{◌≡◌, refl, sym, ap, ◌∙◌}
+use mathlib.Core.Path.{◌≡◌, refl, sym, ap, subst, ◌∙◌}
 use mathlib.Core.Logic.{◌⊎◌, inl, inr, ⊎_elim}
 use mathlib.Core.List.{List, [], ◌∷◌, ◌++◌, map}
 use mathlib.Core.Bool.{Bool, true, false, cond, not, ◌&&◌, ◌||◌}
@@ -80,9 +80,10 @@ found t (p ∷ ps) =
     split (t p)
     (λ e. inr (rw (e, same_eqb p.serial.0)))
     (λ e.
-    rw e
-    (⊎_elim {C = (first_of t ps ≡ missing) ⊎ ((same_serial (first_of t ps) p.serial && false || any_b (λ (q : Picture). same_serial (first_of t ps) q.serial && t q) ps) ≡ true)}
-    inl (λ h. inr (or_right (same_serial (first_of t ps) p.serial && false) _ h)) (found t ps)))
+    let P : Serial → Type 0 = λ (n : Serial). (n ≡ missing) ⊎ (any_b (λ (q : Picture). same_serial n q.serial && t q) (p ∷ ps) ≡ true) in
+    let same : first_of t (p ∷ ps) ≡ first_of t ps = rw e in
+    subst P (sym same)
+    (⊎_elim {C = P (first_of t ps)} inl (λ h. inr (or_right (same_serial (first_of t ps) p.serial && t p) _ h)) (found t ps)))
 
 not_found : (t : Picture → Bool) (ps : List Picture) → All (λ (p : Picture). t p ≡ false) ps → first_of t ps ≡ missing
 unfolding first_of

@@ -4,7 +4,7 @@
 use mathlib.Core.Path.{◌≡◌, sym, ap, ◌∙◌}
 use mathlib.Core.Bool.{Bool, true, false, cond, not, ◌&&◌}
 use mathlib.Core.Logic.{◌⊎◌, inl, inr, ⊎_elim}
-use Prim.Native.Nat.{ℕ, suc, ◌+◌, ◌-◌, ◌*◌, ◌/◌, ◌%◌, ◌^◌, ◌<◌, ◌≤◌}
+use Prim.Native.Nat.{ℕ, zero, suc, ◌+◌, ◌-◌, ◌*◌, ◌/◌, ◌%◌, ◌^◌, ◌<◌, ◌≤◌}
 use native.Mathlib.Nat.{add-mul, suc-mul, mul-le-mul_right, mod-lt, div-add-mod', pow-suc, mul-mod_left, eq-or-lt_of_le}
 use native.Mathlib.Omega.{arith}
 use lib.Dec.{T, ltb, leb, ltb→lt, leb→le, nltb→le, nleb→lt}
@@ -264,6 +264,7 @@ module _ (M l : ℕ) (p v : ℤ) (h : 0 < M) (n : Nearest M p l v) where
       upward w d (under a) = to_le w v (omega arith)
 
 pub pow_even : (k : ℕ) → 0 < k → 2 ^ k % 2 ≡ 0
+pow_even zero h = absurd (omega arith)
 pow_even (suc k) h = ap (λ (x : ℕ). x % 2) (pow-suc 2 k) ∙ mul-mod_left (2 ^ k) 2
 
 -- for every k at once

@@ -27,7 +27,7 @@ use Rattle.paper.proofs.Between.{in_order_kept}
 use Rattle.paper.proofs.Again.{pairs_again}
 
 -- a number that is not told
-said_none : (n : ℕ) (ts : List Test) → first (n told ∷ ts) ≡ 0 → (n ≡ 0) × (first ts ≡ 0)
+said_none : (n : ℕ) (ts : List Test) → first (◌told n ∷ ts) ≡ 0 → (n ≡ 0) × (first ts ≡ 0)
 unfolding first
 said_none n ts e =
     split (eqb n 0) (λ p. (eqb-true n 0 p, rw p at e)) (λ p. absurd (eqb-false n 0 p (rw p at e)))

@@ -1,6 +1,8 @@
 // A pool of surfaces above a session (document 02, Item 10). It chooses the surface of each begin, and knows which
 // surfaces the session holds and on which the display still has a picture. It lies in lent memory, three words beside
 // those of its session. Any bytes get an answer, and any memory is safe: its words are taken as some pool.
+#![tactic(auto)]
+
 mod marks;
 mod tails;
 
@@ -31,7 +33,7 @@ pub const NONE_PENDING: u16 = 19;
 pub const BAD_COUNT: u16 = 20;
 
 // The refusal number, 0 when accepted, the reply's length in bytes, and the surface that a begin was given.
-#[derive(Drop)]
+#[derive(Clone, Copy)]
 pub struct Given {
     pub number: u16,
     pub len: usize,

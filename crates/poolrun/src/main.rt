@@ -1,5 +1,7 @@
 // `pool SURFACES`: makes a pool of that many surfaces, reads calls from standard input and writes the answers
 // (docs/POOL.md). A call is answered when all of it is there, so a last one that is incomplete gets no answer.
+#![tactic(auto)]
+
 ghost use Rattle.std.specs.Prelude.{◌≡◌, true, false, ◌+◌, ◌≤◌, length, drop};
 ghost use Rattle.std.proofs.lemmas.List.Edits.{sets as put};
 ghost use Rattle.format.specs.Cut.{size_of};

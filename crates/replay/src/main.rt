@@ -1,6 +1,8 @@
 // Layer 4, the program: "reads records from standard input and writes the replies". A record is answered when all of it
 // is there. So the session itself answers 13 to a body over 512 bytes, and a last record that is incomplete gets no
 // reply.
+#![tactic(auto)]
+
 ghost use Rattle.std.specs.Prelude.{◌≡◌, ◌+◌, ◌-◌, ◌≤◌, ◌<◌, length, drop};
 ghost use Rattle.format.specs.Cut.{size_of};
 ghost use Rattle.paper.specs.State.{fresh};

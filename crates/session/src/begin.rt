@@ -21,7 +21,7 @@ use wire::flag_bytes;
 
 // The flags that step 1 of a begin derives: NoRaslOutputFlag, the output flag, valid for prevTid0Pic, no output of
 // prior pictures, and `over`, an IRAP picture with NoRaslOutputFlag.
-#[derive(Drop)]
+#[derive(Clone, Copy)]
 pub(crate) struct Flags {
     pub(crate) rasl: bool,
     pub(crate) output: bool,
@@ -31,7 +31,7 @@ pub(crate) struct Flags {
 }
 
 // What steps 1 and 2 of a begin derive: the flags, the MSB and the POC.
-#[derive(Drop)]
+#[derive(Clone, Copy)]
 pub(crate) struct Start {
     pub(crate) flags: Flags,
     pub(crate) msb: i32,

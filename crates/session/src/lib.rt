@@ -1,6 +1,8 @@
 // Layer 3, the session: one call takes lent memory that a session lies in, a lent record and a lent reply buffer,
 // and answers a number and the reply's length. Any bytes get an answer, and any memory is safe: its words are taken
 // as some session, whatever they are.
+#![tactic(auto)]
+
 mod begin;
 mod calls;
 mod lists;
@@ -26,14 +28,14 @@ use store::Store;
 pub const FRONT: usize = 23;
 
 // "The call answers the refusal number, 0 when accepted, and the reply's length in bytes."
-#[derive(Drop)]
+#[derive(Clone, Copy)]
 pub struct Answer {
     pub number: u16,
     pub len: usize,
 }
 
 // The refusals, numbered from 1 to 14: "Numbers a session says no with".
-#[derive(Drop)]
+#[derive(Clone, Copy)]
 pub enum Refusal {
     Unconfigured,
     BadLimits,
@@ -90,7 +92,7 @@ pub fn fresh(
 }
 
 // The surface of a begin: the one that its record names, or one that the caller chose.
-#[derive(Drop)]
+#[derive(Clone, Copy)]
 pub enum Target {
     Own,
     Chosen(Surface),

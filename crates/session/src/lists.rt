@@ -25,7 +25,7 @@ use store::Store;
 use wire::flag_bytes;
 
 // Whether a record is accepted, or by what it is refused.
-#[derive(Drop)]
+#[derive(Clone, Copy)]
 pub(crate) enum Verdict {
     Fine,
     No(Refusal),

@@ -171,7 +171,7 @@ pub(crate) fn put_lists(d: &mut [u8], x: RefList, y: RefList) -> Answer
 }
 
 // What begin says of its picture, but for its sets.
-#[derive(Drop)]
+#[derive(Clone, Copy)]
 pub(crate) struct Told {
     pub(crate) poc: i32,
     pub(crate) flags: u8,

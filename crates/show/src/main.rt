@@ -1,6 +1,8 @@
 // Replies as text: "writes the replies" of the program `replay` on standard input, one readable line for each on
 // standard output. A line is written when all of its reply is there. A last reply that is incomplete gets a line that
 // says so.
+#![tactic(auto)]
+
 mod lists;
 mod replies;
 
@@ -23,7 +25,7 @@ const OUTPUT: usize = 65536;
 const LINE: usize = 28457;
 
 // The number of the next reply, how many bytes were taken, how many their lines have, and what the reader carries on.
-#[derive(Drop)]
+#[derive(Clone, Copy)]
 struct Lined {
     next: u64,
     taken: usize,
@@ -34,7 +36,7 @@ struct Lined {
 // The number of the next reply, how many bytes wait at the start of the input buffer, how many bytes of lines were
 // handed over to be written, whether the run goes on, whether standard input could not be read or standard output not
 // be written, and what the reader of the replies carries to the next one.
-#[derive(Drop)]
+#[derive(Clone, Copy)]
 struct After {
     next: u64,
     held: usize,

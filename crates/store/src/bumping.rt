@@ -14,14 +14,14 @@ use crate::{Handed, Moved, Released, Store, Thrown};
 use paper::{Limits, Picture, Shown};
 
 // The lowest waiting picture: its place and its POC, of two with one POC the earlier stored.
-#[derive(Drop)]
+#[derive(Clone, Copy)]
 pub enum Lowest {
     Nothing,
     At(usize, i32),
 }
 
 // What one walk over the pictures finds: how many wait, whether one of them is late, and the lowest.
-#[derive(Drop)]
+#[derive(Clone, Copy)]
 pub struct Scan {
     pub waiting: usize,
     pub late: bool,
@@ -30,7 +30,7 @@ pub struct Scan {
 
 // How long pictures are handed out: while one waits, each leaving even if marked; or while one is due, with the
 // buffering test or without it.
-#[derive(Drop)]
+#[derive(Clone, Copy)]
 pub enum Rule {
     All,
     Due(Limits, bool),

@@ -2,6 +2,8 @@
 // records and replies. A store is sixteen picture records and how many are used; it is worked on by value. Only `words`
 // knows the words that a host lends a store in: any words may be given, and a length over 16 counts as 16. Sets and
 // marks tell a picture by its serial, handing out by the place where it was found.
+#![tactic(auto)]
+
 mod bumping;
 mod lent;
 mod marks;
@@ -30,28 +32,28 @@ pub use words::{
 };
 
 // The pictures handed out, in order.
-#[derive(Drop)]
+#[derive(Clone, Copy)]
 pub struct Handed {
     pub items: [Shown; Store::CAPACITY],
     pub len: usize,
 }
 
 // The serials thrown away, in order.
-#[derive(Drop)]
+#[derive(Clone, Copy)]
 pub struct Thrown {
     pub items: [Serial; Store::TAIL],
     pub len: usize,
 }
 
 // The surfaces released, in order.
-#[derive(Drop)]
+#[derive(Clone, Copy)]
 pub struct Released {
     pub items: [Surface; Store::TAIL],
     pub len: usize,
 }
 
 // A store after a call, and the call's tail: what it handed out, threw away and released, and how many of each.
-#[derive(Drop)]
+#[derive(Clone, Copy)]
 pub struct Moved {
     pub places: [Picture; Store::CAPACITY],
     pub len: usize,
@@ -64,14 +66,14 @@ pub struct Moved {
 }
 
 // Whether a picture more may be stored.
-#[derive(Drop)]
+#[derive(Clone, Copy)]
 pub enum Room {
     Enough,
     Full,
 }
 
 // The sizes of the five sets (8.3.2).
-#[derive(Drop)]
+#[derive(Clone, Copy)]
 pub struct Sizes {
     pub before: usize,
     pub after: usize,
@@ -82,7 +84,7 @@ pub struct Sizes {
 
 // A store after step 4 of begin, and the sets: first StCurrBefore, StCurrAfter and LtCurr, then StFoll and LtFoll, one
 // behind the other.
-#[derive(Drop)]
+#[derive(Clone, Copy)]
 pub struct Derived {
     pub store: Store,
     pub first: [Serial; Store::CAPACITY],
@@ -91,7 +93,7 @@ pub struct Derived {
 }
 
 // A store: its places, of which the first `len` are used, in the order the pictures came.
-#[derive(Drop)]
+#[derive(Clone, Copy)]
 pub struct Store {
     pub places: [Picture; Store::CAPACITY],
     pub len: usize,

@@ -16,7 +16,7 @@ const COUNT_LIMIT: u32 = 2147483647;
 
 // What a walk over the stored pictures looks for: any mark and this POC; any mark and a POC of these low k bits; a
 // short-term picture of this POC; one that holds this surface.
-#[derive(Drop)]
+#[derive(Clone, Copy)]
 pub enum Sought {
     AnyAt(i32),
     LowAt(u8, i32),
@@ -130,7 +130,7 @@ pub(crate) fn next_count(n: u32) -> u32
 
 // What is done to each picture of a store that is read from its words: nothing; its count rises by 1; it loses its
 // mark.
-#[derive(Drop)]
+#[derive(Clone, Copy)]
 pub enum Change {
     Nothing,
     Raise,

@@ -11,7 +11,7 @@ use crate::{Moved, Released, Store};
 use paper::Picture;
 
 // A store, and the surfaces released so far.
-#[derive(Drop)]
+#[derive(Clone, Copy)]
 pub(crate) struct Freed {
     pub(crate) places: [Picture; Store::CAPACITY],
     pub(crate) len: usize,

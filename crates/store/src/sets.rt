@@ -12,14 +12,14 @@ use paper::{Mark, Picture, Serial};
 use wire::flag_bytes;
 
 // The places of a store after step 4, and what each entry found: neg, pos and lt ones, one behind the other.
-#[derive(Drop)]
+#[derive(Clone, Copy)]
 pub struct Settled {
     pub places: [Picture; Store::CAPACITY],
     pub found: [Serial; Store::CAPACITY],
 }
 
 // Two runs of members: one of the used entries, one of the others.
-#[derive(Drop)]
+#[derive(Clone, Copy)]
 pub struct Runs {
     pub first: [Serial; Store::CAPACITY],
     pub used: usize,

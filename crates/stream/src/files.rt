@@ -3,7 +3,7 @@ ghost use Rattle.std.specs.Prelude.{◌≡◌};
 ghost use Rattle.stream.specs.Files.{Opened, Fed, lessened, unread};
 
 // A file: how many of its bytes wait at the start of its buffer, and whether it has ended or could not be read.
-#[derive(Drop)]
+#[derive(Clone, Copy)]
 pub struct Feed {
     pub fd: i32,
     pub held: usize,

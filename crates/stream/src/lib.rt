@@ -1,5 +1,7 @@
 // Bytes that wait between reads: read on behind them, and what was taken cut off in front; the files that they come
 // from, and text.
+#![tactic(auto)]
+
 pub mod files;
 pub mod text;
 
@@ -7,7 +9,7 @@ ghost use Rattle.std.specs.Prelude.{◌≡◌, min, length};
 ghost use Rattle.stream.specs.Turns.{Fed, shifted, Counted};
 
 // How many bytes wait now, and whether the read failed.
-#[derive(Drop)]
+#[derive(Clone, Copy)]
 pub struct Read {
     pub held: usize,
     pub failed: bool,
@@ -50,7 +52,7 @@ pub fn shift(bytes: &mut [u8], from: usize, end: usize)
 }
 
 // How many bytes were handed over to standard output, and whether they could be written.
-#[derive(Drop)]
+#[derive(Clone, Copy)]
 pub struct Handed {
     pub bytes: usize,
     pub wrote: bool,

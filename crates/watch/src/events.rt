@@ -14,7 +14,7 @@ use format::{behind, behind_shown, kinds, shown_width};
 use paper::{Blamed, Reading, Serial, Shown, Surface};
 
 // One thing that a tail tells.
-#[derive(Drop)]
+#[derive(Clone, Copy)]
 pub enum Event {
     Hand(Shown),
     Throw(Serial),
@@ -22,7 +22,7 @@ pub enum Event {
 }
 
 // The three parts of a tail.
-#[derive(Drop)]
+#[derive(Clone, Copy)]
 pub enum Part {
     Handed,
     Thrown,
@@ -30,7 +30,7 @@ pub enum Part {
 }
 
 // The part of demand 3 that the events break, with what they break it with, or 0 and the lines after them.
-#[derive(Drop)]
+#[derive(Clone, Copy)]
 pub struct Told {
     pub part: u8,
     pub lines: Lines,

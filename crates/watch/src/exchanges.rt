@@ -8,7 +8,7 @@ use paper::Blamed;
 
 // The book after some exchanges, how many bytes their records and their replies have, how many of them break nothing,
 // and the part that the last one breaks, or 0, with the picture and the surface that it does so with.
-#[derive(Drop)]
+#[derive(Clone, Copy)]
 pub struct Paired {
     pub book: Book,
     pub taken: usize,

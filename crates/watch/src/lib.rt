@@ -1,6 +1,8 @@
 // A tenant's check of demand 3, from records and replies alone: the ledger of document 01's demand in arrays of fixed
 // size. It judges the replies of any session, so nothing is asked of them, nor of the book: a length over the greatest
 // capacity, 16, counts as that.
+#![tactic(auto)]
+
 mod blamed;
 mod events;
 mod exchanges;
@@ -24,14 +26,14 @@ use store::Store;
 pub use totals::{current, surfaces, waiting};
 
 // Lines of the ledger in the first `len` places: those held, and room for the current one.
-#[derive(Drop)]
+#[derive(Clone, Copy)]
 pub struct Lines {
     pub items: [Line; Lines::PLACES],
     pub len: usize,
 }
 
 // The line of the current picture, if there is one.
-#[derive(Drop)]
+#[derive(Clone, Copy)]
 pub enum Slot {
     Idle,
     Is(Line),
@@ -39,7 +41,7 @@ pub enum Slot {
 
 // How many pictures were handed out and thrown away, how many accepted lists were checked, and how many records were
 // refused; each stops at the greatest value.
-#[derive(Drop)]
+#[derive(Clone, Copy)]
 pub struct Tally {
     pub handed: u64,
     pub thrown: u64,
@@ -49,7 +51,7 @@ pub struct Tally {
 
 // What somebody knows who has seen the records and the replies: the pictures stored, the current one, how many were
 // begun, the tally, and what the reader of the replies carries to the next one.
-#[derive(Drop)]
+#[derive(Clone, Copy)]
 pub struct Book {
     pub held: Lines,
     pub current: Slot,
@@ -59,7 +61,7 @@ pub struct Book {
 }
 
 // The part of demand 3 that an exchange breaks, or 0, and the book after it.
-#[derive(Drop)]
+#[derive(Clone, Copy)]
 pub struct Heard {
     pub part: u8,
     pub book: Book,

@@ -8,7 +8,7 @@ use paper::{Line, Serial, Shown, Surface};
 
 // What a walk over the lines asks for: one of this serial that waits; one that waits with this serial, surface and POC;
 // one on this surface; one on this surface that waits; one of this serial; any.
-#[derive(Drop)]
+#[derive(Clone, Copy)]
 pub enum Ask {
     Waits(Serial),
     WaitsAs(Shown),
@@ -19,7 +19,7 @@ pub enum Ask {
 }
 
 // What a walk does to every line: nothing; it no longer waits if this is its serial.
-#[derive(Drop)]
+#[derive(Clone, Copy)]
 pub enum Change {
     Same,
     Off(Serial),

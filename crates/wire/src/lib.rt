@@ -1,4 +1,6 @@
 // "All numbers little-endian": numbers read from and written to lent bytes.
+#![tactic(auto)]
+
 pub mod flag_bytes;
 
 ghost use Rattle.std.specs.Prelude.{◌≡◌, ◌+◌, ◌*◌, ◌≤◌, length, [], ◌∷◌};

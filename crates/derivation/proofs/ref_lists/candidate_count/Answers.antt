@@ -1,0 +1,19 @@
+-- `derivation::ref_lists::candidate_count`: the candidates are the members in the run and the current picture, in
+-- either order.
+use native.Mathlib.Omega.{arith}
+use Rattle.derivation.specs.Lists.{refs_in}
+use Rattle.derivation.proofs.Runs.{members_length, length_0, length_1}
+use borrow.Author.Rules.{rules}
+
+use Rattle.derivation.proofs.ref_lists.candidate_count.Goals as goal
+
+pub returns : goal.returns
+returns c =
+    let g = c.args in
+    let x = refs_in g.sets.now g.refs in
+    let e = members_length g.sets.now g.refs c.count_sets.ensures.1 in
+    record {
+      first = λ s. omega (arith, length_0 x g.own s);
+      other = λ s. omega (arith, length_1 x g.own s);
+      most = omega arith;
+    }
