@@ -1,0 +1,20 @@
+-- The counts rose as the pictures were read, and the last place is free or taken.
+use mathlib.Core.Path.{subst}
+use mathlib.Core.List.{List, [], ◌∷◌, ◌++◌}
+use mathlib.Core.Bool.{false}
+use Rattle.paper.specs.Output.{hand_while, due}
+use Rattle.paper.specs.Calls.{raised, finished}
+use Rattle.paper.specs.Calls as Calls
+use Rattle.paper.specs.declared.Picture.{Picture}
+use Rattle.store.specs.StoreWords.{stored}
+use Rattle.store.specs.Tails.{HoldsMoved}
+use Rattle.store.proofs.Fetched.{leaves, roomy_read}
+use borrow.Author.Rules.{rules}
+
+use Rattle.store.proofs.words.finish_picture.Goals as goal
+
+pub returns : goal.returns
+unfolding finished
+returns c =
+    let e = roomy_read raised c.load.result.places (stored c.before.args.store.now) c.load.result.len c.load.ensures.few.1 c.load.ensures.holds in
+    leaves (subst (λ (ps : List Picture). HoldsMoved c.finish_picture-m.result (hand_while (due false c.before.args.l) (ps ++ (Calls.stored c.before.args.c ∷ [])))) e c.finish_picture-m.ensures) (c.save.ensures.pics, c.save.ensures.normal)

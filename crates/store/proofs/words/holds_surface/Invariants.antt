@@ -1,0 +1,16 @@
+use Prim.Native.Nat.{◌≤◌, ◌<◌, ◌-◌}
+use mathlib.Core.Bool.{false}
+use mathlib.Core.Path.{◌≡◌, sym, ap, ◌∙◌}
+use native.Mathlib.Omega.{arith}
+use borrow.Author.Rules.{rules}
+use Rattle.paper.specs.Words.{any_b}
+use Rattle.paper.specs.Step.{held_by}
+use Rattle.store.specs.StoreWords.{picture_at, pictures, count_in}
+use Rattle.store.proofs.Walks.{any_none, any_miss, any_hit}
+use Rattle.store.proofs.words.holds_surface.Given as goal
+
+abbrev pub invariant-loop-i : goal.invariant-loop-i
+invariant-loop-i l = (l.i ≤ l.n) × (any_b (held_by l.x) (pictures l.store l.i) ≡ false)
+
+abbrev pub decreases-loop-i : goal.decreases-loop-i
+decreases-loop-i l = l.n - l.i
