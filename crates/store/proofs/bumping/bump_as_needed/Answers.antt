@@ -1,133 +1,32 @@
 -- What happened so far and the turns that are left are all the turns; a turn in which none is due or none waits is the
 -- last.
 use Prim.Native.Nat.{ℕ, ◌+◌, ◌-◌, ◌≤◌, ◌<◌}
-use mathlib.Core.Path.{◌≡◌, sym, ◌∙◌}
-use mathlib.Core.Bool.{Bool, true}
+use mathlib.Core.Path.{◌≡◌, sym, ap, ◌∙◌}
+use mathlib.Core.Bool.{Bool, true, false, not, ◌||◌}
 use mathlib.Core.List.{List, ◌++◌}
-use mathlib.Core.Logic.{⊎_elim}
 use native.Mathlib.Omega.{arith}
-use lib.ListN.{length, length-set}
+use lib.ListN.{length, set, length-set}
+use lib.IntN.{ℤ}
 use borrow.Author.Rules.{rules}
 use borrow.Author.Tests.{not-true, not-false}
-use Rattle.paper.specs.Output.{and_then}
+use Rattle.paper.specs.Output.{and_then, quieted, shown}
+use Rattle.paper.specs.State.{is_marked}
 use Rattle.paper.specs.declared.Picture.{Picture}
-use Rattle.store.specs.Places.{place_at, front}
+use Rattle.paper.specs.declared.Shown.{Shown}
+use Rattle.store.specs.Places.{place_at, front, without_at}
 use Rattle.store.specs.Tails.{HoldsReleased, released_in, started_in, Gathers}
-use Rattle.store.specs.Bumps.{Scans, due_scan, latency_by, turns_by, hands_out}
+use Rattle.store.specs.Bumps.{Scans, due_scan, latency_by, turns_by, hands_out, always_by}
 use Rattle.store.specs.declared.Handed.{Handed}
 use Rattle.store.specs.declared.Released.{Released}
 use Rattle.store.specs.OneWalk.{one_walk}
+use Rattle.store.specs.declared.bumping.Rule.{Rule}
 use Rattle.store.specs.declared.bumping.Lowest.TheVariants.{At}
 use Rattle.store.specs.declared.bumping.Scan.{Scan}
 use Rattle.store.proofs.Scans.{scan_waits, scan_at}
 use Rattle.store.proofs.Taken.{taken_leaves, taken_stays}
-use Rattle.store.proofs.Rounds.{starts, gathers_moved, freed, Counts, Turned, turned_none, turned_all, turned_done, turned_nothing, turned_idle, found_at, found_handed, found_released, handed_more, released_left, released_stay, turned_more, turned_counts}
-
+use Rattle.store.proofs.Rounds.{starts, gathers_moved, freed, Counts, Turned, turned_none, turned_all, turned_done, turned_nothing, turned_idle, found_at, found_handed, found_released, handed_more, released_more, released_left, released_stay, turned_more, turned_counts}
 use Rattle.store.proofs.bumping.bump_as_needed.Goals as goal
-
-pub loop-i-init : goal.loop-i-init
-loop-i-init c =
-    let l : length c.args.ps ≡ 16 = search rules in
-    (l, turned_none c.args.rule c.args.ps c.args.n c.none-handed.result c.args.x (starts c.args.ps c.args.n c.none-handed.result c.args.x c.none-handed.ensures c.requires.0 c.requires.1 c.requires.2), c.requires.3)
-
-pub offset_bounds-places-at : goal.offset_bounds-places-at
-offset_bounds-places-at c =
-    let rooms : Found c.in-At.at.0.0 c.loop-i.len c.loop-i.handed
-    c.loop-i.released c.loop-i.c =
-    record {
-      place = found_at c.loop-i.invariant.1 c.loop-i.invariant.2 c.in-At.at.1;
-      stands = scan_at c.loop-i.invariant.2 c.in-At.at.1;
-      handed = found_handed c.loop-i.invariant.1 c.loop-i.invariant.2 c.in-At.at.1;
-      released = found_released c.loop-i.invariant.1 c.loop-i.invariant.2 c.in-At.at.1;
-      waits = scan_waits c.loop-i.invariant.2 c.in-At.at.1;
-    }
-    in
-    omega (arith, (rooms).place)
-
-pub bounds-places-at : goal.bounds-places-at
-bounds-places-at c =
-    let rooms : Found c.in-At.at.0.0 c.loop-i.len c.loop-i.handed
-    c.loop-i.released c.loop-i.c =
-    record {
-      place = found_at c.loop-i.invariant.1 c.loop-i.invariant.2 c.in-At.at.1;
-      stands = scan_at c.loop-i.invariant.2 c.in-At.at.1;
-      handed = found_handed c.loop-i.invariant.1 c.loop-i.invariant.2 c.in-At.at.1;
-      released = found_released c.loop-i.invariant.1 c.loop-i.invariant.2 c.in-At.at.1;
-      waits = scan_waits c.loop-i.invariant.2 c.in-At.at.1;
-    }
-    in
-    (rooms).place
-
-pub bounds-handed-k : goal.bounds-handed-k
-bounds-handed-k c =
-    let rooms : Found c.in-At.at.0.0 c.loop-i.len c.loop-i.handed
-    c.loop-i.released c.loop-i.c =
-    record {
-      place = found_at c.loop-i.invariant.1 c.loop-i.invariant.2 c.in-At.at.1;
-      stands = scan_at c.loop-i.invariant.2 c.in-At.at.1;
-      handed = found_handed c.loop-i.invariant.1 c.loop-i.invariant.2 c.in-At.at.1;
-      released = found_released c.loop-i.invariant.1 c.loop-i.invariant.2 c.in-At.at.1;
-      waits = scan_waits c.loop-i.invariant.2 c.in-At.at.1;
-    }
-    in
-    (rooms).handed
-
-pub bounds-released-j : goal.bounds-released-j
-bounds-released-j c =
-    let rooms : Found c.in-At.at.0.0 c.loop-i.len c.loop-i.handed
-    c.loop-i.released c.loop-i.c =
-    record {
-      place = found_at c.loop-i.invariant.1 c.loop-i.invariant.2 c.in-At.at.1;
-      stands = scan_at c.loop-i.invariant.2 c.in-At.at.1;
-      handed = found_handed c.loop-i.invariant.1 c.loop-i.invariant.2 c.in-At.at.1;
-      released = found_released c.loop-i.invariant.1 c.loop-i.invariant.2 c.in-At.at.1;
-      waits = scan_waits c.loop-i.invariant.2 c.in-At.at.1;
-    }
-    in
-    (rooms).released
-
-pub remove-places-requires : goal.remove-places-requires
-remove-places-requires c =
-    let rooms : Found c.in-At.at.0.0 c.loop-i.len c.loop-i.handed
-    c.loop-i.released c.loop-i.c =
-    record {
-      place = found_at c.loop-i.invariant.1 c.loop-i.invariant.2 c.in-At.at.1;
-      stands = scan_at c.loop-i.invariant.2 c.in-At.at.1;
-      handed = found_handed c.loop-i.invariant.1 c.loop-i.invariant.2 c.in-At.at.1;
-      released = found_released c.loop-i.invariant.1 c.loop-i.invariant.2 c.in-At.at.1;
-      waits = scan_waits c.loop-i.invariant.2 c.in-At.at.1;
-    }
-    in
-       
-    (c.loop-i.invariant.1.gathers.places, (rooms).stands)
-
-pub overflow_sub-len : goal.overflow_sub-len
-overflow_sub-len c =
-    let rooms : Found c.in-At.at.0.0 c.loop-i.len c.loop-i.handed
-    c.loop-i.released c.loop-i.c =
-    record {
-      place = found_at c.loop-i.invariant.1 c.loop-i.invariant.2 c.in-At.at.1;
-      stands = scan_at c.loop-i.invariant.2 c.in-At.at.1;
-      handed = found_handed c.loop-i.invariant.1 c.loop-i.invariant.2 c.in-At.at.1;
-      released = found_released c.loop-i.invariant.1 c.loop-i.invariant.2 c.in-At.at.1;
-      waits = scan_waits c.loop-i.invariant.2 c.in-At.at.1;
-    }
-    in
-    omega (arith, (rooms).stands)
-
-pub overflow_sub-c : goal.overflow_sub-c
-overflow_sub-c c =
-    let rooms : Found c.in-At.at.0.0 c.loop-i.len c.loop-i.handed
-    c.loop-i.released c.loop-i.c =
-    record {
-      place = found_at c.loop-i.invariant.1 c.loop-i.invariant.2 c.in-At.at.1;
-      stands = scan_at c.loop-i.invariant.2 c.in-At.at.1;
-      handed = found_handed c.loop-i.invariant.1 c.loop-i.invariant.2 c.in-At.at.1;
-      released = found_released c.loop-i.invariant.1 c.loop-i.invariant.2 c.in-At.at.1;
-      waits = scan_waits c.loop-i.invariant.2 c.in-At.at.1;
-    }
-    in
-    omega (arith, (rooms).waits)
+use Rattle.store.proofs.bumping.bump_as_needed.Goals.{else-loop-i-test, then-loop-i-test+in_default, then-loop-i-test+in-At+then-not-needs_bumping, then-loop-i-test+in-At+else-not-needs_bumping+then-not-is_due, then-leaves, else-leaves}
 
 -- what a turn leaves in the places, and releases
 record Left (ps ps' : List Picture) (k k' : ℕ) (x x' : Released) (leaves : Bool) (p : Picture) : Type 0 where
@@ -136,115 +35,92 @@ record Left (ps ps' : List Picture) (k k' : ℕ) (x x' : Released) (leaves : Boo
   pics : front ps' k' ≡ (hands_out leaves p (front ps k)).pics
   released : HoldsReleased x' (released_in x ++ freed leaves p)
 
+-- one is due, at a place
+module _ {rule : Rule} {ps₀ : List Picture} {n i : ℕ} {x₀ : Released} {ps : List Picture} {k : ℕ} {h : Handed} {x : Released} {c : Scan}
+    (l : length ps ≡ 16) (g : Turned rule ps₀ n x₀ i ps k h x) (s : Scans ps k (latency_by rule) c) {at : ℕ} {z : ℤ} (e : c.lowest ≡ At at z) where
+  one : one_walk (front ps k) ≡ At at z
+  one = sym s.lowest ∙ e
+
+  leaves_it : {b : Bool} → b ≡ true → {ps' : List Picture} {k' : ℕ} {x' : Released} (r : List Picture) → length r ≡ 16
+      → front r (k - 1) ≡ without_at at (front ps k) → ps' ≡ r → k' ≡ k - 1 → x' ≡ released_more x (place_at ps at).surface
+      → Left ps ps' k k' x x' b (place_at ps at)
+  leaves_it t r y w a m o =
+      record {
+        long = rw a y;
+        few = rw m (omega arith);
+        pics = rw (a, m, t) (w ∙ sym (taken_leaves ps k one));
+        released = rw o (released_left g s e t);
+      }
+
+  stays_there : {b : Bool} → b ≡ false → {ps' : List Picture} {k' : ℕ} {x' : Released} {q : Picture} → q ≡ quieted (place_at ps at)
+      → ps' ≡ set ps at q → k' ≡ k → x' ≡ x → Left ps ps' k k' x x' b (place_at ps at)
+  stays_there t w a m o =
+      record {
+        long = rw a (length-set ps _ _ ∙ l);
+        few = rw m (omega arith);
+        pics = rw (a, m, t, w) (sym (taken_stays ps k one (omega (arith, l, found_at g s e))));
+        released = rw o (released_stay g s e t);
+      }
+
+  -- so it is one of the turns, and one fewer waits
+  turned : due_scan rule c k ≡ true → i < n → {y : Shown} → y ≡ shown (place_at ps at) → {b : Bool} → b ≡ (always_by rule || not (is_marked (place_at ps at).mark))
+      → {ps' : List Picture} {k' : ℕ} {x' : Released} → Left ps ps' k k' x x' b (place_at ps at)
+      → Turned rule ps₀ n x₀ (i + 1) ps' k' (handed_more h y) x'
+      × Counts ps' k' (latency_by rule) (record { waiting = c.waiting - 1; late = c.late; lowest = c.lowest })
+  turned d lt u w {ps'} {k'} f = (rw u (turned_more g s e d w ps' k' f.few f.pics f.released lt), turned_counts g s e d w ps' k' f.few f.pics f.released)
+
+pub loop-i-init : goal.loop-i-init
+loop-i-init c =
+    let l : length c.args.ps ≡ 16 = search rules in
+    (l, turned_none c.args.rule c.args.ps c.args.n c.none-handed.result c.args.x (starts c.args.ps c.args.n c.none-handed.result c.args.x c.none-handed.ensures c.requires.0 c.requires.1 c.requires.2), c.requires.3)
+
+pub offset_bounds-places-at : goal.offset_bounds-places-at
+offset_bounds-places-at c = let v = c.loop-i.invariant in let f = found_at v.1 v.2 c.in-At.is in record { fits = omega arith }
+
+pub bounds-places-at : goal.bounds-places-at
+bounds-places-at c = let v = c.loop-i.invariant in found_at v.1 v.2 c.in-At.is
+
+pub bounds-handed-k : goal.bounds-handed-k
+bounds-handed-k c = let v = c.loop-i.invariant in found_handed v.1 v.2 c.in-At.is
+
+pub bounds-released-j : goal.bounds-released-j
+bounds-released-j c = let v = c.loop-i.invariant in found_released v.1 v.2 c.in-At.is
+
+pub remove-places-requires : goal.remove-places-requires
+remove-places-requires c = let v = c.loop-i.invariant in (v.1.gathers.places, scan_at v.2 c.in-At.is)
+
+pub overflow_sub-len : goal.overflow_sub-len
+overflow_sub-len c = let v = c.loop-i.invariant in let f = scan_at v.2 c.in-At.is in omega arith
+
+pub overflow_sub-c : goal.overflow_sub-c
+overflow_sub-c c = let v = c.loop-i.invariant in let f = scan_waits v.2 c.in-At.is in omega arith
+
 pub loop-i-preserved : goal.loop-i-preserved
 loop-i-preserved c =
-    let rooms : Found c.in-At.at.0.0 c.loop-i.len c.loop-i.handed
-    c.loop-i.released c.loop-i.c =
-    record {
-      place = found_at c.loop-i.invariant.1 c.loop-i.invariant.2 c.in-At.at.1;
-      stands = scan_at c.loop-i.invariant.2 c.in-At.at.1;
-      handed = found_handed c.loop-i.invariant.1 c.loop-i.invariant.2 c.in-At.at.1;
-      released = found_released c.loop-i.invariant.1 c.loop-i.invariant.2 c.in-At.at.1;
-      waits = scan_waits c.loop-i.invariant.2 c.in-At.at.1;
-    }
-    in
-    let left : Left c.loop-i.places c.if-leaves.places c.loop-i.len c.if-leaves.len c.loop-i.released c.if-leaves.released c.leaves.result (place_at c.loop-i.places c.in-At.at.0.0) =
-    let o : one_walk (front c.loop-i.places c.loop-i.len) ≡ At c.in-At.at.0.0 c.in-At.at.0.1.0 = sym c.loop-i.invariant.2.lowest ∙ c.in-At.at.1 in
-    ⊎_elim
-    (λ w.
-    let y : length w.1.result ≡ 16 = search rules in
-    record {
-      long = rw w.2 y;
-      few = rw w.3 (omega arith);
-      pics = rw (w.2, w.3, w.0.taken) (w.1.ensures ∙ sym (taken_leaves c.loop-i.places c.loop-i.len o));
-      released = rw w.4 (released_left c.loop-i.invariant.1 c.loop-i.invariant.2 c.in-At.at.1 w.0.taken);
-    })
-    (λ w.
-    record {
-      long = rw w.2 (length-set c.loop-i.places _ _ ∙ c.loop-i.invariant.0);
-      few = rw w.3 (omega arith);
-      pics = rw (w.2, w.3, w.0.left, w.1.ensures) (sym (taken_stays c.loop-i.places c.loop-i.len o (omega (arith, c.loop-i.invariant.0, (rooms).place))));
-      released = rw w.4 (released_stay c.loop-i.invariant.1 c.loop-i.invariant.2 c.in-At.at.1 w.0.left);
-    })
-    c.if-leaves.branch
-    in
-    let after_turn : Turned c.args.rule c.args.ps c.args.n c.args.x (c.loop-i.i + 1) c.if-leaves.places c.if-leaves.len (handed_more c.loop-i.handed c.Shown-of.result) c.if-leaves.released
-    × Counts c.if-leaves.places c.if-leaves.len (latency_by c.args.rule) (record { waiting = c.loop-i.c.waiting - 1; late = c.loop-i.c.late; lowest = c.loop-i.c.lowest }) =
-    let d : due_scan c.args.rule c.loop-i.c c.loop-i.len ≡ true = sym c.needs_bumping.ensures ∙ not-false c.needs_bumping.result c.if-not-needs_bumping.false-raw in
-    let f = left in
-     (
-      rw c.Shown-of.ensures (turned_more c.loop-i.invariant.1 c.loop-i.invariant.2 c.in-At.at.1 d c.leaves.ensures c.if-leaves.places c.if-leaves.len f.few f.pics f.released c.loop-i-test.true),
-      turned_counts c.loop-i.invariant.1 c.loop-i.invariant.2 c.in-At.at.1 d c.leaves.ensures c.if-leaves.places c.if-leaves.len f.few f.pics f.released,
-    )
-    in
-       let t = after_turn in
-    
-    ((left).long, t.0, rw c.latency_of-latency.ensures at c.find_lowest_poc_for_bumping-c.ensures)
+    let v = c.loop-i.invariant in
+    let e = c.in-At.is in
+    let f : Left c.loop-i.places c.if-leaves.places c.loop-i.len c.if-leaves.len c.loop-i.released c.if-leaves.released c.leaves.result (place_at c.loop-i.places c.in-At.at) =
+    elim c.if-leaves.branch [
+      then-leaves w ↦ (let y : length w.remove-places.result ≡ 16 = search rules in leaves_it v.0 v.1 v.2 e w.if-leaves.true w.remove-places.result y w.remove-places.ensures w.places-is w.len-is w.released-is)
+      | else-leaves w ↦ stays_there v.0 v.1 v.2 e w.if-leaves.false w.end_waiting.ensures w.places-is w.len-is w.released-is ] in
+    let t = turned v.0 v.1 v.2 e (sym c.needs_bumping.ensures ∙ c.if-not-needs_bumping.false) c.loop-i-test.true c.shown_of.ensures c.leaves.ensures f in
+    (f.long, t.0, rw c.latency_of-latency.ensures at (c.find_lowest_poc_for_bumping-c.ensures))
 
 pub returns : goal.returns
 returns c =
-    let rooms : Found c.in-At.at.0.0 c.loop-i.len c.loop-i.handed
-    c.loop-i.released c.loop-i.c =
-    record {
-      place = found_at c.loop-i.invariant.1 c.loop-i.invariant.2 c.in-At.at.1;
-      stands = scan_at c.loop-i.invariant.2 c.in-At.at.1;
-      handed = found_handed c.loop-i.invariant.1 c.loop-i.invariant.2 c.in-At.at.1;
-      released = found_released c.loop-i.invariant.1 c.loop-i.invariant.2 c.in-At.at.1;
-      waits = scan_waits c.loop-i.invariant.2 c.in-At.at.1;
-    }
-    in
-    let left : Left c.loop-i.places c.if-leaves.places c.loop-i.len c.if-leaves.len c.loop-i.released c.if-leaves.released c.leaves.result (place_at c.loop-i.places c.in-At.at.0.0) =
-    let o : one_walk (front c.loop-i.places c.loop-i.len) ≡ At c.in-At.at.0.0 c.in-At.at.0.1.0 = sym c.loop-i.invariant.2.lowest ∙ c.in-At.at.1 in
-    ⊎_elim
-    (λ w.
-    let y : length w.1.result ≡ 16 = search rules in
-    record {
-      long = rw w.2 y;
-      few = rw w.3 (omega arith);
-      pics = rw (w.2, w.3, w.0.taken) (w.1.ensures ∙ sym (taken_leaves c.loop-i.places c.loop-i.len o));
-      released = rw w.4 (released_left c.loop-i.invariant.1 c.loop-i.invariant.2 c.in-At.at.1 w.0.taken);
-    })
-    (λ w.
-    record {
-      long = rw w.2 (length-set c.loop-i.places _ _ ∙ c.loop-i.invariant.0);
-      few = rw w.3 (omega arith);
-      pics = rw (w.2, w.3, w.0.left, w.1.ensures) (sym (taken_stays c.loop-i.places c.loop-i.len o (omega (arith, c.loop-i.invariant.0, (rooms).place))));
-      released = rw w.4 (released_stay c.loop-i.invariant.1 c.loop-i.invariant.2 c.in-At.at.1 w.0.left);
-    })
-    c.if-leaves.branch
-    in
-    let after_turn : Turned c.args.rule c.args.ps c.args.n c.args.x (c.loop-i.i + 1) c.if-leaves.places c.if-leaves.len (handed_more c.loop-i.handed c.Shown-of.result) c.if-leaves.released
-    × Counts c.if-leaves.places c.if-leaves.len (latency_by c.args.rule) (record { waiting = c.loop-i.c.waiting - 1; late = c.loop-i.c.late; lowest = c.loop-i.c.lowest }) =
-    let d : due_scan c.args.rule c.loop-i.c c.loop-i.len ≡ true = sym c.needs_bumping.ensures ∙ not-false c.needs_bumping.result c.if-not-needs_bumping.false-raw in
-    let f = left in
-     (
-      rw c.Shown-of.ensures (turned_more c.loop-i.invariant.1 c.loop-i.invariant.2 c.in-At.at.1 d c.leaves.ensures c.if-leaves.places c.if-leaves.len f.few f.pics f.released c.loop-i-test.true),
-      turned_counts c.loop-i.invariant.1 c.loop-i.invariant.2 c.in-At.at.1 d c.leaves.ensures c.if-leaves.places c.if-leaves.len f.few f.pics f.released,
-    )
-    in
-       let g : Gathers c.loop-i-test.places c.loop-i-test.len c.loop-i-test.handed c.loop-i-test.released (and_then (started_in c.args.ps c.args.n c.args.x) (turns_by c.args.rule)) =
-    ⊎_elim
-    (λ w. rw (w.1, w.2, w.3, w.4) (turned_all c.loop-i.invariant.1 w.0.left))
-    (⊎_elim
-    (λ w. rw (w.3, w.4, w.5, w.6) (turned_nothing c.loop-i.invariant.1 c.loop-i.invariant.2 w.2.given.1))
-    (⊎_elim
-    (λ w. let b = w.4 in rw (w.6, w.7, w.8, w.9) (turned_idle c.loop-i.invariant.1 c.loop-i.invariant.2 (sym b.ensures ∙ not-true b.result w.5.taken)))
-    (λ w.
-    let at-if1 : tie.Else1 invariant-loop decreases-loop =
-    record {
-      before = record {
-        before = record {
-          before = record { before = record { before = record { before = c; loop-test = w.0 }; match = w.1 }; low = w.2 };
-          known-told = w.3;
-        };
-        needs-bumping = w.4;
-      };
-      if1 = w.5;
-    } in
-    let j : tie.Joined2 invariant-loop decreases-loop =
-    record { before = record { before = record { before = record { before = record { before = at-if1; p = w.6 }; surface = w.7 }; Shown-of = w.8 }; leaves = w.9 }; if2 = w.10 } in
-    let b = w.12 in
-    let y = after_turn j in
-    rw (w.14, w.15, w.16, w.17) (turned_done y.0 y.1 (sym b.ensures ∙ not-true b.result w.13.taken)))))
-    c.loop-i-test.branch in
+    let v = c.loop-i.invariant in
+    let t = c.loop-i-test in
+    let g : Gathers t.places t.len t.handed t.released (and_then (started_in c.args.ps c.args.n c.args.x) (turns_by c.args.rule)) =
+    elim t.branch [
+      else-loop-i-test w ↦ rw (w.places-is, w.len-is, w.handed-is, w.released-is) (turned_all v.1 w.loop-i-test.false)
+      | then-loop-i-test+in_default w ↦ rw (w.places-is, w.len-is, w.handed-is, w.released-is) (turned_nothing v.1 v.2 w.in_default.is)
+      | then-loop-i-test+in-At+then-not-needs_bumping w ↦ rw (w.places-is, w.len-is, w.handed-is, w.released-is) (turned_idle v.1 v.2 (sym w.needs_bumping.ensures ∙ w.if-not-needs_bumping.true))
+      | then-loop-i-test+in-At+else-not-needs_bumping+then-not-is_due w ↦
+        (let e = w.in-At.is in
+        let f : Left c.loop-i.places w.if-leaves.places c.loop-i.len w.if-leaves.len c.loop-i.released w.if-leaves.released w.leaves.result (place_at c.loop-i.places w.in-At.at) =
+        elim w.if-leaves.branch [
+          then-leaves w' ↦ (let y : length w'.remove-places.result ≡ 16 = search rules in leaves_it v.0 v.1 v.2 e w'.if-leaves.true w'.remove-places.result y w'.remove-places.ensures w'.places-is w'.len-is w'.released-is)
+          | else-leaves w' ↦ stays_there v.0 v.1 v.2 e w'.if-leaves.false w'.end_waiting.ensures w'.places-is w'.len-is w'.released-is ] in
+        let y = turned v.0 v.1 v.2 e (sym w.needs_bumping.ensures ∙ w.if-not-needs_bumping.false) w.loop-i-test.true w.shown_of.ensures w.leaves.ensures f in
+        rw (w.places-is, w.len-is, w.handed-is, w.released-is) (turned_done y.0 y.1 (sym w.is_due.ensures ∙ w.if-not-is_due.true))) ] in
     gathers_moved g c.none.ensures c.of.ensures

@@ -13,7 +13,7 @@ pub clear-requires : goal.clear-requires
 clear-requires c = clear_room c.start.ensures (omega arith) (omega arith)
 
 pub clear-requires-in-Is : goal.clear-requires-in-Is
-clear-requires-in-Is c = clear_room c.drop_current.ensures (drops_one c.in-Is.c.0.0) (omega arith)
+clear-requires-in-Is c = clear_room c.drop_current.ensures (drops_one c.in-Is.c) (omega arith)
 
 pub returns-in-Idle : goal.returns-in-Idle
 returns-in-Idle c =
@@ -23,4 +23,4 @@ returns-in-Idle c =
 pub returns-in-Is : goal.returns-in-Is
 returns-in-Is c =
     let ps = front c.args.s.places c.args.s.len in
-    holds_then cleared c.drop_current.ensures (ap (discarded ps) c.in-Is.c.1 ∙ discard_is ps c.in-Is.c.0.0) c.clear-in-Is.ensures
+    holds_then cleared c.drop_current.ensures (ap (discarded ps) c.in-Is.is ∙ discard_is ps c.in-Is.c) c.clear-in-Is.ensures
