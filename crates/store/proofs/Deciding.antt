@@ -70,9 +70,9 @@ same_from_lem : {a : Bool} {P : Type 0} → Decides a P → (xs ys : List ℕ) �
 same_from_lem d [] [] = decides_by (λ p. (p, refl)) (λ p. p.0) d
 same_from_lem d [] (y ∷ ys) = decides_no (λ p. longer y ys (sym p.1))
 same_from_lem d (x ∷ xs) [] = decides_no (λ p. longer x xs p.1)
-same_from_lem d (x ∷ xs) (y ∷ ys) =
+same_from_lem {a = a} d (x ∷ xs) (y ∷ ys) =
     decides_by (λ p. (p.0.0, cons p.0.1 p.1)) (λ p. ((p.0, ap (λ (l : List ℕ). get_or l 0 0) p.1), ap (λ (l : List ℕ). drop 1 l) p.1))
-    (same_from_lem (decides_both d (decides_is x y)) xs ys)
+    (same_from_lem {a = a && eqb x y} (decides_both d (decides_is x y)) xs ys)
 
 pub words_told : (xs ys : List ℕ) → Decides (same xs ys) (xs ≡ ys)
 words_told [] [] = decides_yes refl

@@ -2,7 +2,6 @@ pub mod StoreWords
 pub mod Tidy
 pub mod Deciding
 pub mod SearchLaws
-pub mod RawPart
 pub mod Walks
 pub mod Moves
 pub mod Kept
@@ -16,10 +15,5 @@ pub mod Saving
 pub mod Fetched
 pub mod Filling
 pub mod MarkLaws
-pub mod Arrays
-pub mod Behind
-pub mod Settling
-pub mod Handing
-pub mod Finding
 pub mod Lending
 pub mod Whole
