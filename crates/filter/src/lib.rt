@@ -5,6 +5,7 @@
 ghost use Rattle.std.specs.Prelude.{◌≡◌, true, ◌-◌};
 ghost use Rattle.filter.specs.Turns.{fed_by, gone, Went};
 
+use std::io::{Read as Source, Write};
 use stream::Read;
 
 // How many bytes wait at the start of the input buffer, how many bytes of answers were handed over to be written,
@@ -48,16 +49,23 @@ fn less(held: usize, taken: usize) -> usize
 
 // What a turn does behind the messages that were answered: hands their answers over to be written and cuts them off the
 // input; where none was answered, reads on.
-pub fn go_on(a: Answered, held: usize, input: &mut [u8], output: &[u8]) -> After
+pub fn go_on<R: Source, W: Write>(
+    source: &mut R,
+    sink: &mut W,
+    a: Answered,
+    held: usize,
+    input: &mut [u8],
+    output: &[u8],
+) -> After
     ensures { Went a held input.old result input.new }
 {
     let taken = a.taken;
     if taken == 0 {
-        let r = stream::read_on(0, held, input);
+        let r = stream::read_on(source, held, input);
         return fed(held, r);
     }
     let made = a.made;
-    let more = stream::write_front(output, made).wrote;
+    let more = stream::write_front(sink, output, made).wrote;
     stream::shift(input, taken, held);
     After {
         held: less(held, taken),

@@ -347,7 +347,7 @@ module _ (m : Memory) (r : List ℕ) {l : Limits} (h : BeginFields) (t : Start) 
 -- ---- the stages' own facts
 
 pub fits_back : (z : ℤ) → in32 z ≡ true → to_z w32 (of_z w32 z) ≡ z
-fits_back z e = to_z-of_z (record { sfits = ltb-true (mag z) (2 ^ 31) e })
+fits_back z e = to_z-of_z {w = w32} (record { sfits = ltb-true (mag z) (2 ^ 31) e })
 
 -- the wishes that were read are the paper's, or one is outside as the paper's is
 module _ (s : Session) (r : List ℕ) {l : Limits} (h : BeginFields) (t : Start) (p : Placed s r l h t) {b : Bool} {ps : List ℤ} {hs : List ℕ}

@@ -1,6 +1,6 @@
 -- What a call answers, writes and leaves.
 use Rattle.std.specs.Prelude.{ℕ, ◌≤◌, ◌<◌, ◌≡◌, List, [], length, true}
-use Rattle.std.specs.Borrow.{Bor}
+use Rattle.std.specs.Borrow.{MutBor}
 use denote.Triple.Both.{Both}
 use Rattle.wire.specs.Bytes.{over}
 use Rattle.paper.specs.Numbers.{reply_limit}
@@ -48,7 +48,7 @@ pub record Does (m : Memory) (d : Decided) (before : List ℕ) (a : Answer) (m' 
 
 -- what is lent to a call, words or bytes: `.entry` as the call finds it, `.exit` as it leaves it
 abbrev pub Lent : Type 0
-Lent = Both (Bor (List ℕ)) (Bor (List ℕ))
+Lent = Both (MutBor (List ℕ)) (MutBor (List ℕ))
 
 -- a call decides of the session that lies in m by `decide`, answers and writes what was decided, and leaves m'
 abbrev pub Decides : (Session → Decided) → Memory → Memory → Lent → Answer → Type 0

@@ -1,23 +1,21 @@
 -- Texts one behind the other, and the digits of numbers.
 use Prim.Native.Nat.{ℕ, zero, suc, ◌+◌, ◌-◌, ◌/◌, ◌%◌, ◌^◌, ◌≤◌, ◌<◌}
 use mathlib.Core.Path.{◌≡◌, refl, sym, ap, subst, ◌∙◌}
-use mathlib.Core.List.{List, [], ◌∷◌, ◌++◌}
+use mathlib.Core.List.{List, [], ◌∷◌, ◌++◌, append_assoc}
 use mathlib.Core.Bool.{Bool, true, false, cond}
-use native.Mathlib.Nat.{one-le-pow, pow-le-pow_right}
 use native.Mathlib.Numerals.{add-one}
 use native.Mathlib.Omega.{arith}
-use borrow.Author.Tests.{lt-ltb, le-ltb, leb-true, leb-false}
-use lib.Dec.{ltb, leb}
+use borrow.Author.Tests.{lt-ltb, le-ltb}
+use lib.Dec.{ltb}
 use mir.Val.{to_z}
 use mir.Syntax.{w32}
 use mir.Facts.{to_z_pos}
-use lib.ListN.{length, get_or, take, set, length-append}
+use lib.ListN.{length, get_or, take, drop, set, length-append}
 use lib.Seq.{sets, take-suc, length-take-le}
+use Rattle.std.proofs.lemmas.List.{drop-set}
 use Rattle.wire.proofs.Laws.{runs, sets_over}
 use Rattle.wire.proofs.Ints.{to_z_high}
 use Rattle.wire.specs.Bytes.{over}
-use Rattle.io.specs.Digits.{IsDigitCount}
-use Rattle.io.specs.Digits as Io
 use Rattle.stream.specs.Text.{ascii, digits, decimal, integer, Wrote}
 
 -- a second text right behind the first
@@ -61,43 +59,34 @@ one_stored d word at i h e =
 
 -- ---- digits
 
--- `io` has the last k digits of a number, and the fewest that hold it: these are all
-pub all_digits : (f k n : ℕ) → k ≤ f → IsDigitCount 10 1 n k → Io.last_digits 10 k n ≡ digits f n
+-- the last digit of a number, in front of those that stand already
+next_digit_at : (j n : ℕ) (d : List ℕ) → 10 ≤ n → j < length d → digits j (n / 10) ++ drop j (set d j (48 + n % 10)) ≡ digits (suc j) n ++ drop (suc j) d
 unfolding digits
-all_digits zero k n h w = absurd (omega (arith, w))
-all_digits (suc f) zero n h w = absurd (omega (arith, w))
-all_digits (suc f) (suc zero) n h w =
-    let a : n < 10 = omega (arith, w.1) in
-    let e : n % 10 ≡ n = omega arith in
-    simp (e, lt-ltb n 10 a)
-all_digits (suc f) (suc (suc j)) n h w =
-    let p : 1 ≤ 10 ^ j = one-le-pow j 10 (omega arith) in
-    let l : 10 ^ (suc (suc j) - 1) ≤ n = w.2 (omega arith) in
-    let e : suc (suc j) - 1 ≡ suc j = omega arith in
-    let q : 10 ^ suc j ≤ n = subst (λ (m : ℕ). 10 ^ m ≤ n) e l in
-    let u : n < 10 ^ suc (suc j) = w.1 in
-    let v : n / 10 < 10 ^ suc j = omega arith in
-    let e' : j ≡ suc j - 1 = omega arith in
-    let x : 10 ^ j ≤ n / 10 = omega arith in
-    let g : n % 10 < 10 = omega arith in
-    simp (le-ltb n 10 (omega arith), lt-ltb (n % 10) 10 g)
-    (ap (λ (l : List ℕ). l ++ ((48 + n % 10) ∷ [])) (all_digits f (suc j) (n / 10) (omega arith) (omega arith, v, λ _. subst (λ (m : ℕ). 10 ^ m ≤ n / 10) e' x)))
+next_digit_at j n d h k =
+    simp (le-ltb n 10 h) (rw (drop-set d j (48 + n % 10) k, add-one) (sym (append_assoc (digits j (n / 10)) ((48 + n % 10) ∷ []) (drop (suc j) d))))
 
--- a number of 64 bits has at most 20
-few_places : (n k : ℕ) → n < 18446744073709551616 → IsDigitCount 10 1 n k → k ≤ 20
-few_places n k h w = by_test (leb k 20) refl
-  where
-    by_test : (b : Bool) → leb k 20 ≡ b → k ≤ 20
-    by_test true e = leb-true k 20 e
-    by_test false e =
-        let g : 20 < k = leb-false k 20 e in
-        let p : 10 ^ 20 ≤ 10 ^ (k - 1) = pow-le-pow_right {n = 10} (omega arith) {i = 20} {j = k - 1} (omega arith) in
-        let q : 10 ^ (k - 1) ≤ n = w.2 (omega arith) in
-        absurd (omega (arith, p, q))
+pub next_digit : (i n : ℕ) (d : List ℕ) → 10 ≤ n → 1 ≤ i → i ≤ length d → digits (i - 1) (n / 10) ++ drop (i - 1) (set d (i - 1) (48 + n % 10)) ≡ digits i n ++ drop i d
+next_digit zero n d h k m = absurd (omega arith)
+next_digit (suc j) n d h k m = let e : suc j - 1 ≡ j = omega arith in rw e (next_digit_at j n d h (omega arith))
 
-pub decimal_is : {t : List ℕ} {k : ℕ} (n : ℕ) → n < 18446744073709551616 → IsDigitCount 10 1 n k → t ≡ Io.last_digits 10 k n → t ≡ decimal n
-unfolding decimal
-decimal_is {k = k} n h w e = e ∙ all_digits 20 k n (few_places n k h w) w
+-- and its first
+pub first_digit : (i n : ℕ) (d : List ℕ) → n < 10 → 1 ≤ i → i ≤ length d → drop (i - 1) (set d (i - 1) (48 + n)) ≡ digits i n ++ drop i d
+unfolding digits
+first_digit zero n d h k m = absurd (omega arith)
+first_digit (suc j) n d h k m =
+    let e : suc j - 1 ≡ j = omega arith in
+    rw e (simp (lt-ltb n 10 h) (rw (drop-set d j (48 + n) (omega arith), add-one) refl))
+
+-- a number of at least two digits
+pub places : (i n : ℕ) → n < 10 ^ i → 10 ≤ n → 2 ≤ i
+places zero n h k = absurd (omega arith)
+places (suc zero) n h k = absurd (omega arith)
+places (suc (suc i)) n h k = omega arith
+
+-- has one place less without its last digit
+pub one_place_less : (i n : ℕ) → n < 10 ^ i → 10 ≤ n → n / 10 < 10 ^ (i - 1)
+one_place_less zero n h k = absurd (omega arith)
+one_place_less (suc i) n h k = let e : suc i - 1 ≡ i = omega arith in rw e (omega arith)
 
 -- a number below 10 ^ k has at most k digits
 either : (b : Bool) (x y : List ℕ) (k : ℕ) → length x ≤ k → length y ≤ k → length (cond b x y) ≤ k

@@ -1,14 +1,55 @@
 // Files that are named by the program's arguments and read in blocks.
-ghost use Rattle.std.specs.Prelude.{◌≡◌};
-ghost use Rattle.stream.specs.Files.{Opened, Fed, lessened, unread};
+ghost use Rattle.std.specs.Prelude.{◌≡◌, ◌≤◌, length};
+ghost use Rattle.stream.specs.Files.{Fed, lessened, unread};
 
-// A file: how many of its bytes wait at the start of its buffer, and whether it has ended or could not be read.
+use std::env::FillError;
+use std::fs::File;
+use std::io;
+use std::io::{Error, Read, Write};
+use std::rt::{Env, Files};
+
+// Room for the name of any file that the system can open.
+pub const NAME: usize = 4096;
+
+// What the system answers where a name is missing, too long, or no text.
+const MISSING: i32 = 22;
+
+const TOO_LONG: i32 = 36;
+
+const NO_TEXT: i32 = 84;
+
+// And where there is no room to read on.
+const NO_ROOM: i32 = 105;
+
+// A file: how many of its bytes wait at the start of its buffer, and whether it has ended or could not be read. The
+// program tells its files apart by the number.
 #[derive(Clone, Copy)]
 pub struct Feed {
     pub fd: i32,
     pub held: usize,
     pub ended: bool,
     pub failed: bool,
+}
+
+// A file that is open, and why the last read of it failed, if one did.
+#[derive(Drop)]
+pub struct Opened<F> {
+    file: F,
+    why: Option<Error>,
+}
+
+impl<F: Read> Read for Opened<F> {
+    ghost remaining = { λ o. F.remaining o.file };
+
+    fn read(&mut self, buf: &mut [u8]) -> io::Result<usize> {
+        match self.file.read(buf) {
+            Ok(n) => Ok(n),
+            Err(e) => {
+                self.why = Some(e);
+                Err(e)
+            }
+        }
+    }
 }
 
 // A file of which nothing was read yet.
@@ -25,11 +66,11 @@ pub fn unread(fd: i32) -> Feed
 
 // One read behind the bytes that wait. None is read at the end of the file, or where it can't be read; a buffer that is
 // full counts as a file that can't be read, so that nothing rests on it.
-pub fn read_on(f: Feed, bytes: &mut [u8]) -> Feed
+pub fn read_on<R: Read>(source: &mut R, f: Feed, bytes: &mut [u8]) -> Feed
     ensures { Fed f bytes.old result bytes.new }
 {
     let held = f.held;
-    let r = crate::read_on(f.fd, held, bytes);
+    let r = crate::read_on(source, held, bytes);
     let now = r.held;
     Feed {
         fd: f.fd,
@@ -52,29 +93,113 @@ pub fn without(f: Feed, n: usize) -> Feed
     }
 }
 
-// Opens the file that an argument names: a descriptor, or -1 where it can't, and then it says so.
-pub fn open(i: usize, program: &[u8]) -> i32
-    ensures { Opened result }
-{
-    let mut path = io::buffer();
-    let n = os::arg(i, &mut path);
-    if os::errno() != 0 {
-        io::write_all(2, program);
-        os::fail(b": the file's name");
-        return -1;
-    }
-    let fd = os::open_read(&path[..n]);
-    if fd < 0 {
-        unreadable(&path[..n], program);
-        return -1;
-    }
-    fd
+// Whether the program was started with n arguments behind its own name.
+pub fn are_given<E: Env>(rt: &E, n: usize) -> bool {
+    is_given(rt, n) & !is_given(rt, n.saturating_add(1))
 }
 
-// Says that a file can't be opened or read: the program's name, the file's, and the system's words for the call that
-// failed last. So the name must be at hand: to ask for the argument would be such a call.
-pub fn unreadable(path: &[u8], program: &[u8]) {
-    io::write_all(2, program);
-    io::write_all(2, b": ");
-    os::fail(path);
+fn is_given<E: Env>(rt: &E, i: usize) -> bool {
+    match rt.arg(i, &mut []) {
+        Err(FillError::NotPresent) => false,
+        _ => true,
+    }
+}
+
+// Puts an argument at the start of the buffer: how many bytes it has, or 0 where it is missing or does not fit.
+pub fn name<E: Env>(rt: &E, i: usize, buf: &mut [u8]) -> usize
+    ensures { result ≤ length buf.new }
+{
+    match rt.arg(i, buf) {
+        Ok(n) => n,
+        Err(_) => 0,
+    }
+}
+
+// Opens the file that an argument names, or says why it can't.
+pub fn open<R: Env + Files + Alloc, W: Write>(
+    rt: &R,
+    err: &mut W,
+    i: usize,
+    program: &[u8],
+) -> io::Result<Option<Opened<R::File>>> {
+    let mut path = [0u8; NAME];
+    match rt.arg(i, &mut path) {
+        Ok(n) => open_path(rt, err, &path[..n], program),
+        Err(FillError::NotPresent) => nameless(rt, err, program, MISSING),
+        Err(FillError::TooLong) => nameless(rt, err, program, TOO_LONG),
+    }
+}
+
+fn nameless<R: Files + Alloc, W: Write>(
+    rt: &R,
+    err: &mut W,
+    program: &[u8],
+    code: i32,
+) -> io::Result<Option<Opened<R::File>>> {
+    let why = Error::from_raw_os_error(code);
+    say(rt, err, b"the file's name", program, &why)?;
+    Ok(None)
+}
+
+fn open_path<R: Files + Alloc, W: Write>(
+    rt: &R,
+    err: &mut W,
+    path: &[u8],
+    program: &[u8],
+) -> io::Result<Option<Opened<R::File>>> {
+    match open_text(rt, path) {
+        Ok(file) => Ok(Some(Opened { file, why: None })),
+        Err(e) => {
+            say(rt, err, path, program, &e)?;
+            Ok(None)
+        }
+    }
+}
+
+// A name that is no UTF-8 names no file here.
+fn open_text<R: Files>(rt: &R, path: &[u8]) -> io::Result<R::File> {
+    match str::from_utf8(path) {
+        Ok(text) => File::open(rt, text),
+        Err(_) => Err(Error::from_raw_os_error(NO_TEXT)),
+    }
+}
+
+// Says that a file can't be read: the program's name, the file's, and the system's words for the read that failed last.
+pub fn unreadable<R: Alloc, W: Write, F>(
+    rt: &R,
+    err: &mut W,
+    file: &Opened<F>,
+    path: &[u8],
+    program: &[u8],
+) -> io::Result<()> {
+    let why = match file.why {
+        Some(e) => e,
+        None => Error::from_raw_os_error(NO_ROOM),
+    };
+    say(rt, err, path, program, &why)
+}
+
+// Says why a call for a file failed.
+fn say<R: Alloc, W: Write>(
+    rt: &R,
+    err: &mut W,
+    path: &[u8],
+    program: &[u8],
+    why: &Error,
+) -> io::Result<()> {
+    let text = why.to_string(rt.alloc())?;
+    err.write_all(program)?;
+    err.write_all(b": ")?;
+    err.write_all(path)?;
+    err.write_all(b": ")?;
+    err.write_all(system_words(text.as_str()).as_bytes())?;
+    err.write_all(b"\n")
+}
+
+// The system's words for an error, without the number that std puts behind them.
+fn system_words(text: &str) -> &str {
+    match text.split_once(" (os error ") {
+        Some((words, _)) => words,
+        None => text,
+    }
 }

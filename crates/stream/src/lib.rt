@@ -8,6 +8,8 @@ pub mod text;
 ghost use Rattle.std.specs.Prelude.{◌≡◌, min, length};
 ghost use Rattle.stream.specs.Turns.{Fed, shifted, Counted};
 
+use std::io::{Read as Source, Write};
+
 // How many bytes wait now, and whether the read failed.
 #[derive(Clone, Copy)]
 pub struct Read {
@@ -17,18 +19,18 @@ pub struct Read {
 
 // One read behind the `held` bytes that wait. None is read at the end of the input, where it can't be read, or where
 // there is no room behind them, which counts as failed.
-pub fn read_on(fd: i32, held: usize, bytes: &mut [u8]) -> Read
+pub fn read_on<R: Source>(source: &mut R, held: usize, bytes: &mut [u8]) -> Read
     ensures { Fed held bytes.old result bytes.new }
 {
     if bytes.len() <= held {
         return Read { held, failed: true };
     }
-    let rest = &mut bytes[held..];
-    let got = libc::read(fd, rest);
-    let n = io::count(got, rest);
-    Read {
-        held: held + n,
-        failed: got < 0,
+    match source.read(&mut bytes[held..]) {
+        Ok(n) => Read {
+            held: held + n,
+            failed: false,
+        },
+        Err(_) => Read { held, failed: true },
     }
 }
 
@@ -51,19 +53,19 @@ pub fn shift(bytes: &mut [u8], from: usize, end: usize)
     }
 }
 
-// How many bytes were handed over to standard output, and whether they could be written.
+// How many bytes were handed over to the writer, and whether they could be written.
 #[derive(Clone, Copy)]
 pub struct Handed {
     pub bytes: usize,
     pub wrote: bool,
 }
 
-// Hands the first n bytes over to standard output, or all where there are no more. What reaches it is not said.
-pub fn write_front(bytes: &[u8], n: usize) -> Handed
+// Hands the first n bytes over to the writer, or all where there are no more. What reaches it is not said.
+pub fn write_front<W: Write>(sink: &mut W, bytes: &[u8], n: usize) -> Handed
     ensures { result.bytes ≡ min n (length bytes.now) }
 {
     let last = lesser(n, bytes.len());
-    let wrote = io::write_all(1, &bytes[..last]);
+    let wrote = sink.write_all(&bytes[..last]).is_ok();
     Handed { bytes: last, wrote }
 }
 

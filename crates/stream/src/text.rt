@@ -1,5 +1,5 @@
 // Words and numbers, written into a lent buffer. Each function gives the place behind what it wrote.
-ghost use Rattle.std.specs.Prelude.{[], cond, ◌+◌, ◌≤◌, ◌<◌, length};
+ghost use Rattle.std.specs.Prelude.{◌≡◌, [], cond, ◌+◌, ◌≤◌, ◌<◌, length, drop};
 ghost use Rattle.std.proofs.Common.{to_z};
 ghost use Rattle.std.specs.Int.{w32};
 ghost use Rattle.stream.specs.Text.{decimal, integer, Wrote};
@@ -26,14 +26,31 @@ pub fn put_if(d: &mut [u8], at: usize, on: bool, word: &[u8]) -> usize
     if on { put(d, at, word) } else { at }
 }
 
+// Puts the decimal digits of a number at the end of the buffer, and gives the place where they start.
+fn digits_of(n: u64, digits: &mut [u8; 20]) -> usize
+    ensures within { result ≤ 20 }
+    ensures spelled { drop result digits.new ≡ decimal n }
+{
+    let mut i = 20;
+    let mut rest = n;
+    while rest >= 10 {
+        i -= 1;
+        digits[i] = b'0' + (rest % 10) as u8;
+        rest /= 10;
+    }
+    i -= 1;
+    digits[i] = b'0' + rest as u8;
+    i
+}
+
 // A number in decimal digits.
 fn put_decimal(d: &mut [u8], at: usize, n: u64) -> usize
     requires { at + length (decimal n) ≤ length d.old }
     ensures { Wrote d.old at (decimal n) (length (decimal n)) result d.new }
 {
     let mut digits = [0u8; 20];
-    let k = io::decimal(n, &mut digits);
-    put(d, at, &digits[..k])
+    let start = digits_of(n, &mut digits);
+    put(d, at, &digits[start..])
 }
 
 // Any number: it has at most twenty digits.

@@ -1,0 +1,38 @@
+-- `begin_inside`: the flags and the POC are the paper's. A POC outside i32 gives 6; else `begin_at` has what it asks
+-- for.
+use mathlib.Core.Path.{◌∙◌, ap}
+use Rattle.paper.specs.State.{Session, modulus}
+use Rattle.derivation.specs.Answers.{poc_answer}
+use Rattle.session.proofs.Begins.{outside, Counted, no_poc, placed}
+use Rattle.session.proofs.Saying.{does_refuse}
+use Rattle.session.specs.Starts.{flags_from, prev_from}
+use Rattle.session.specs.View.{memory, session_in, front_in}
+use borrow.Author.Rules.{rules}
+
+use Rattle.session.proofs.begin.begin_inside.Goals as goal
+
+pub begin_at-requires : goal.begin_at-requires
+unfolding front_in
+begin_at-requires c =
+    let counted : Counted (session c.before.before.before) c.before.before.before.args.h c.flags_of-flags.result c.derive_poc.result =
+    record {
+      flags = c.flags_of-flags.ensures ∙ (λ i. flags_from (c.is_first.ensures i) (c.is_ended.ensures i) c.before.before.before.args.h);
+      poc = c.derive_poc.ensures.answer ∙ (λ i. poc_answer (modulus (c.before.before.before.requires.0.limits i)) ((c.prev_for.ensures ∙ ap (prev_from c.flags_of-flags.result.over) c.prev_in-q.ensures) i) c.before.before.before.args.h.lsb);
+    }
+    in
+       
+    (placed c.before.before.before.pre.0 (counted) _ _ c.in-Val.is, c.before.before.before.pre.1)
+
+pub returns-in-Outside : goal.returns-in-Outside
+unfolding front_in
+returns-in-Outside c =
+    let session : Session =
+    session_in (memory c.args.front.now c.args.sets.now c.args.store.now)
+    in
+    let counted : Counted (session) c.before.before.before.args.h c.flags_of-flags.result c.derive_poc.result =
+    record {
+      flags = c.flags_of-flags.ensures ∙ (λ i. flags_from (c.is_first.ensures i) (c.is_ended.ensures i) c.before.before.before.args.h);
+      poc = c.derive_poc.ensures.answer ∙ (λ i. poc_answer (modulus (c.before.before.before.requires.0.limits i)) ((c.prev_for.ensures ∙ ap (prev_from c.flags_of-flags.result.over) c.prev_in-q.ensures) i) c.before.before.before.args.h.lsb);
+    }
+    in
+       does_refuse (outside (session) c.before.before.before.args.msg.now c.before.before.before.pre.0 (no_poc c.before.before.before.pre.0 (counted) c.in-Outside.is)) c.refuse.ensures

@@ -1,0 +1,10 @@
+-- `abandon`: refused where no picture is current, else `abandon_at` of that picture; the definition asks the same.
+use mathlib.Core.Path.{sym, ◌∙◌}
+use Rattle.session.proofs.Saying.{abandon_4}
+use borrow.Author.Rules.{rules}
+
+use Rattle.session.proofs.calls.abandon.Goals as goal
+
+pub returns-in-Idle : goal.returns-in-Idle
+returns-in-Idle c =
+    λ xs t. abandon_4 c.before.args.front.now xs t (sym c.now_in.ensures ∙ c.in-Idle.is) c.refuse.ensures

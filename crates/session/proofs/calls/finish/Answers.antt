@@ -1,0 +1,10 @@
+-- `finish`: refused where no picture is current, else `finish_at` of that picture; the definition asks the same.
+use mathlib.Core.Path.{sym, ◌∙◌}
+use Rattle.session.proofs.Saying.{finish_4}
+use borrow.Author.Rules.{rules}
+
+use Rattle.session.proofs.calls.finish.Goals as goal
+
+pub returns-in-Idle : goal.returns-in-Idle
+returns-in-Idle c =
+    λ xs. finish_4 c.before.args.front.now xs c.before.args.store.now (sym c.now_in.ensures ∙ c.in-Idle.is) c.refuse.ensures

@@ -1,0 +1,15 @@
+-- The front is in order part by part, and the store is in normal form.
+use Rattle.session.proofs.Layouts.{memory_told}
+use borrow.Author.Rules.{rules}
+
+use Rattle.session.proofs.normal.is_normal.Goals as goal
+
+pub returns : goal.returns
+returns c =
+    memory_told c.args.front.now c.args.sets.now c.args.store.now c.count_front.ensures.1 c.count_sets.ensures.1
+    c.flags_laid.ensures
+    c.limits_laid.ensures
+    c.prev_laid.ensures
+    c.current_laid.ensures
+    c.sizes_laid.ensures
+    c.is_normal.ensures

@@ -1,0 +1,37 @@
+-- `begin_ranges`: the ranges are those of the fields and those of the entries, and fields in range have at most 16
+-- entries behind them.
+use Prim.Native.Nat.{◌+◌, ◌^◌, ◌≤◌, min}
+use native.Mathlib.Omega.{arith}
+use borrow.Author.Rules.{rules}
+use Rattle.session.proofs.Entries.{begin_out, begin_few, begin_on}
+
+use Rattle.session.proofs.records.begin_ranges.Goals as goal
+
+pub returns-then-not-field_ranges : goal.returns-then-not-field_ranges
+returns-then-not-field_ranges c =
+    begin_out (2 ^ (min c.args.k 16)) c.args.msg.now c.requires c.field_ranges.ensures c.if-not-field_ranges.true-raw
+
+pub longs_all-longs-requires : goal.longs_all-longs-requires
+longs_all-longs-requires c =
+    let few_behind : c.args.h.neg + c.args.h.pos + c.args.h.lt ≤ 16 =
+    begin_few (2 ^ (min c.args.k 16)) c.args.msg.now c.requires c.field_ranges.ensures c.if-not-field_ranges.false-raw
+    in
+    let few = few_behind in (omega (arith, few), omega (arith, few))
+
+pub falling_all-requires : goal.falling_all-requires
+falling_all-requires c =
+    let few_behind : c.args.h.neg + c.args.h.pos + c.args.h.lt ≤ 16 =
+    begin_few (2 ^ (min c.args.k 16)) c.args.msg.now c.requires c.field_ranges.ensures c.if-not-field_ranges.false-raw
+    in
+    let few = few_behind in (omega (arith, few), omega (arith, few))
+
+pub rising_all-requires : goal.rising_all-requires
+rising_all-requires c =
+    let few_behind : c.args.h.neg + c.args.h.pos + c.args.h.lt ≤ 16 =
+    begin_few (2 ^ (min c.args.k 16)) c.args.msg.now c.requires c.field_ranges.ensures c.if-not-field_ranges.false-raw
+    in
+    let few = few_behind in (omega (arith, few), omega (arith, few))
+
+pub returns : goal.returns
+returns c =
+    begin_on (2 ^ (min c.args.k 16)) c.args.msg.now c.requires c.field_ranges.ensures c.if-not-field_ranges.false-raw c.longs_all-longs.ensures c.falling_all.ensures c.rising_all.ensures

@@ -1,0 +1,30 @@
+-- The test of the entries so far holds, until one entry fails it.
+use mathlib.Core.Bool.{true}
+use mathlib.Core.Path.{◌≡◌, sym, ap, ◌∙◌}
+use Prim.Native.Nat.{ℕ, ◌-◌, ◌≤◌}
+use native.Mathlib.Omega.{arith}
+use borrow.Author.Rules.{rules}
+use lib.IntN.{pos}
+use mir.Syntax.{w32}
+use mir.Val.{to_z, of_z}
+use Rattle.paper.specs.Ranges.{rising}
+use Rattle.paper.specs.Records.{short_at}
+use Rattle.paper.specs.Words.{table}
+use Rattle.session.proofs.Entries.{rises, last_of, last_none, run_none, run_on, run_out}
+
+use Rattle.session.proofs.records.rising_all.Goals as goal
+
+pub loop-i-init : goal.loop-i-init
+loop-i-init c = let f = short_at c.args.msg.now c.args.at in (omega arith, sym (last_none (pos 0) f), run_none rises (pos 0) f)
+
+pub returns-then-not-rising_ok : goal.returns-then-not-rising_ok
+returns-then-not-rising_ok c =
+    let f = short_at c.args.msg.now c.args.at in
+    let z : to_z w32 (of_z w32 c.loop-i.last.delta) ≡ c.loop-i.last.delta = search rules in
+    run_out rises f c.loop-i.i (z ∙ c.loop-i.invariant.1) c.short_entry-e.ensures c.rising_ok.ensures c.args.n (omega arith) c.if-not-rising_ok.true-raw
+
+pub loop-i-preserved : goal.loop-i-preserved
+loop-i-preserved c =
+    let f = short_at c.args.msg.now c.args.at in
+    let z : to_z w32 (of_z w32 c.loop-i.last.delta) ≡ c.loop-i.last.delta = search rules in
+    let k = run_on rises f c.loop-i.i (z ∙ c.loop-i.invariant.1) c.short_entry-e.ensures c.rising_ok.ensures c.if-not-rising_ok.false-raw c.loop-i.invariant.2 in (omega arith, k.0, k.1)

@@ -1,0 +1,10 @@
+-- A number of 32 bits has no more digits.
+use native.Mathlib.Omega.{arith}
+use Rattle.stream.proofs.Spelling.{roomier, ten_digits}
+use Rattle.stream.proofs.text.put_u32.Goals as goal
+
+pub put_decimal-requires : goal.put_decimal-requires
+put_decimal-requires c = let k = ten_digits c.args.n (omega arith) in omega (arith, k)
+
+pub returns : goal.returns
+returns c = roomier (ten_digits c.args.n (omega arith)) c.put_decimal.ensures
