@@ -8,7 +8,10 @@ ghost use Rattle.std.specs.Prelude.{◌≡◌, false, ◌+◌, ◌≤◌, length
 ghost use Rattle.compare.specs.Pairs.{taken_at, goes, Paired};
 ghost use Rattle.compare.specs.Turns.{state_of, Went, Turned, standing, Compares};
 
-use stream::files::Feed;
+use std::io;
+use std::io::{Read, Write};
+use stream::files;
+use stream::files::{Feed, NAME, Opened};
 
 // A reply has at most 65,539 bytes, so there is always room to read on behind one that is not whole yet.
 const INPUT: usize = 131072;
@@ -106,7 +109,13 @@ fn fed(s: State, first: Feed, second: Feed, more: bool, spent: bool) -> State
 }
 
 // Where no pair is compared: reads the file on that is waited for, or ends the run.
-fn go_on(s: State, first: &mut [u8], second: &mut [u8]) -> State
+fn go_on<R: Read>(
+    s: State,
+    first_source: &mut R,
+    second_source: &mut R,
+    first: &mut [u8],
+    second: &mut [u8],
+) -> State
     requires { (s.first.held ≤ length first.old) × (s.second.held ≤ length second.old) }
     ensures { Went s first.old second.old result first.new second.new }
 {
@@ -116,19 +125,27 @@ fn go_on(s: State, first: &mut [u8], second: &mut [u8]) -> State
     let j = b.held;
     let n = pair::reply_size(&first[..i], a.ended);
     if !((n > 0) | a.ended) {
-        let f = stream::files::read_on(a, first);
+        let f = files::read_on(first_source, a, first);
         return fed(s, f, b, !f.failed, false);
     }
     let m = pair::reply_size(&second[..j], b.ended);
     if !((m > 0) | b.ended) {
-        let f = stream::files::read_on(b, second);
+        let f = files::read_on(second_source, b, second);
         return fed(s, a, f, !f.failed, false);
     }
     fed(s, a, b, false, (n > 0) | (m > 0))
 }
 
 // Writes the lines of the pairs that wait, and makes room for more; where none waits, reads on.
-fn turn(s: State, first: &mut [u8], second: &mut [u8], output: &mut [u8]) -> State
+fn turn<R: Read, W: Write>(
+    s: State,
+    first_source: &mut R,
+    second_source: &mut R,
+    sink: &mut W,
+    first: &mut [u8],
+    second: &mut [u8],
+    output: &mut [u8],
+) -> State
     requires held_in_bounds { (s.first.held ≤ length first.old) × (s.second.held ≤ length second.old) }
     requires in_bounds { (65539 ≤ length first.old) × (65539 ≤ length second.old) × (49 ≤ length output.old) }
     ensures { Turned s first.old second.old output.old result first.new
@@ -149,14 +166,14 @@ fn turn(s: State, first: &mut [u8], second: &mut [u8], output: &mut [u8]) -> Sta
     let n = l.first;
     let m = l.second;
     if (n == 0) & (m == 0) {
-        return go_on(s, first, second);
+        return go_on(s, first_source, second_source, first, second);
     }
     let made = l.made;
-    let wrote = stream::write_front(output, made).wrote;
+    let wrote = stream::write_front(sink, output, made).wrote;
     stream::shift(first, n, i);
     stream::shift(second, m, j);
-    let x = stream::files::without(a, n);
-    let y = stream::files::without(b, m);
+    let x = files::without(a, n);
+    let y = files::without(b, m);
     State {
         number: l.number,
         first: x,
@@ -169,15 +186,24 @@ fn turn(s: State, first: &mut [u8], second: &mut [u8], output: &mut [u8]) -> Sta
 }
 
 // Turn after turn from number 0. Nothing says that the files end, so the turns are counted.
-fn run(first_fd: i32, second_fd: i32, first: &mut [u8], second: &mut [u8], out: &mut [u8]) -> State
+fn run<R: Read, W: Write>(
+    first_fd: i32,
+    second_fd: i32,
+    first_source: &mut R,
+    second_source: &mut R,
+    sink: &mut W,
+    first: &mut [u8],
+    second: &mut [u8],
+    out: &mut [u8],
+) -> State
     requires { (65539 ≤ length first.old) × (65539 ≤ length second.old) × (49 ≤ length out.old) }
     ensures { Compares first_fd second_fd (standing result first.new second.new
         out.new) }
 {
     let mut s = State {
         number: 0,
-        first: stream::files::unread(first_fd),
-        second: stream::files::unread(second_fd),
+        first: files::unread(first_fd),
+        second: files::unread(second_fd),
         made: 0,
         more: true,
         unwritten: false,
@@ -185,51 +211,74 @@ fn run(first_fd: i32, second_fd: i32, first: &mut [u8], second: &mut [u8], out: 
     };
     let mut left: u64 = 18446744073709551615;
     while left > 0 {
-        s = turn(s, first, second, out);
+        s = turn(s, first_source, second_source, sink, first, second, out);
         left = stream::turns_left(left, s.more);
     }
     s
 }
 
 // What failed is named on standard error, the files by these names.
-fn finish(s: State, first: &[u8], second: &[u8]) {
-    let a = s.first;
-    let b = s.second;
-    if a.failed {
-        stream::files::unreadable(first, b"compare");
+fn finish<R: Alloc, W: Write, F>(
+    rt: &R,
+    err: &mut W,
+    s: State,
+    first_source: &Opened<F>,
+    second_source: &Opened<F>,
+    first: &[u8],
+    second: &[u8],
+) -> io::Result<()> {
+    if s.first.failed {
+        files::unreadable(rt, err, first_source, first, b"compare")?;
     }
-    if b.failed {
-        stream::files::unreadable(second, b"compare");
+    if s.second.failed {
+        files::unreadable(rt, err, second_source, second, b"compare")?;
     }
     if s.unwritten {
-        io::write_all(2, b"compare: standard output can't be written\n");
+        err.write_all(b"compare: standard output can't be written\n")?;
     }
     if s.spent | s.more {
-        io::write_all(
-            2,
-            b"compare: more replies than there are numbers of 64 bits\n",
-        );
+        err.write_all(b"compare: more replies than there are numbers of 64 bits\n")?;
     }
+    Ok(())
 }
 
-// The buffers and the names are here, of one size for any length of the files.
-fn main() {
-    if os::arg_count() != 3 {
-        io::write_all(2, b"usage: compare FIRST SECOND\n");
-        return;
+// The buffers and the names are here, of one size for any length of the files, which are told apart by their places
+// among the arguments.
+fn main(rt: HostRuntime) -> io::Result<()> {
+    if !files::are_given(&rt, 2) {
+        return eprintln!(rt; "usage: compare FIRST SECOND");
     }
-    let a = stream::files::open(1, b"compare");
-    let b = stream::files::open(2, b"compare");
-    if (a < 0) | (b < 0) {
-        return;
-    }
+    let mut err = rt.stderr();
+    let a = files::open(&rt, &mut err, 1, b"compare")?;
+    let b = files::open(&rt, &mut err, 2, b"compare")?;
+    let (Some(mut a), Some(mut b)) = (a, b) else {
+        return Ok(());
+    };
+    let mut sink = rt.stdout();
     let mut first = [0u8; INPUT];
     let mut second = [0u8; INPUT];
     let mut output = [0u8; OUTPUT];
-    let mut first_name = io::buffer();
-    let mut second_name = io::buffer();
-    let n = os::arg(1, &mut first_name);
-    let m = os::arg(2, &mut second_name);
-    let s = run(a, b, &mut first, &mut second, &mut output);
-    finish(s, &first_name[..n], &second_name[..m]);
+    let s = run(
+        1,
+        2,
+        &mut a,
+        &mut b,
+        &mut sink,
+        &mut first,
+        &mut second,
+        &mut output,
+    );
+    let mut first_name = [0u8; NAME];
+    let mut second_name = [0u8; NAME];
+    let n = files::name(&rt, 1, &mut first_name);
+    let m = files::name(&rt, 2, &mut second_name);
+    finish(
+        &rt,
+        &mut err,
+        s,
+        &a,
+        &b,
+        &first_name[..n],
+        &second_name[..m],
+    )
 }

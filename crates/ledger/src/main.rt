@@ -11,7 +11,10 @@ ghost use Rattle.ledger.specs.Turns.{state_of, wants, Went, Turned, standing, Ju
 ghost use Rattle.ledger.specs.Verdict.{last_rest};
 
 use paper::Blamed;
-use stream::files::Feed;
+use std::io;
+use std::io::{Read, Write};
+use stream::files;
+use stream::files::{Feed, NAME, Opened};
 use watch::Book;
 
 // A record or a reply has at most 65,539 bytes, so there is always room to read on behind one that is not whole yet.
@@ -91,7 +94,14 @@ fn fed(s: State, records: Feed, replies: Feed, part: u8, rest: usize, more: bool
 }
 
 // Reads one of the files on, or ends the run.
-fn go_on(s: State, m: Move, records: &mut [u8], replies: &mut [u8]) -> State
+fn go_on<R: Read>(
+    s: State,
+    m: Move,
+    records_source: &mut R,
+    replies_source: &mut R,
+    records: &mut [u8],
+    replies: &mut [u8],
+) -> State
     ensures { Went s m records.old replies.old result records.new
         replies.new }
 {
@@ -99,11 +109,11 @@ fn go_on(s: State, m: Move, records: &mut [u8], replies: &mut [u8]) -> State
     let b = s.replies;
     match m {
         Move::Records => {
-            let f = stream::files::read_on(a, records);
+            let f = files::read_on(records_source, a, records);
             fed(s, f, b, 0, 0, !f.failed)
         }
         Move::Replies => {
-            let f = stream::files::read_on(b, replies);
+            let f = files::read_on(replies_source, b, replies);
             fed(s, a, f, 0, 0, !f.failed)
         }
         Move::Stop(part) => {
@@ -114,7 +124,13 @@ fn go_on(s: State, m: Move, records: &mut [u8], replies: &mut [u8]) -> State
 }
 
 // What to do where no exchange is whole.
-fn starve(s: State, records: &mut [u8], replies: &mut [u8]) -> State
+fn starve<R: Read>(
+    s: State,
+    records_source: &mut R,
+    replies_source: &mut R,
+    records: &mut [u8],
+    replies: &mut [u8],
+) -> State
     requires { (s.records.held ≤ length records.old) × (s.replies.held ≤ length replies.old) }
     ensures { Went s (wants s records.old replies.old) records.old
         replies.old result records.new replies.new }
@@ -126,11 +142,17 @@ fn starve(s: State, records: &mut [u8], replies: &mut [u8]) -> State
     let said = format::size(&records[..n]) > 0;
     let answered = format::size(&replies[..k]) > 0;
     let m = next_move(said, a.ended, answered, b.ended, k > 0);
-    go_on(s, m, records, replies)
+    go_on(s, m, records_source, replies_source, records, replies)
 }
 
 // Hears the exchanges that are whole, and makes room for more; where none is whole, reads on.
-fn turn(s: State, records: &mut [u8], replies: &mut [u8]) -> State
+fn turn<R: Read>(
+    s: State,
+    records_source: &mut R,
+    replies_source: &mut R,
+    records: &mut [u8],
+    replies: &mut [u8],
+) -> State
     requires { (s.records.held ≤ length records.old) × (s.replies.held ≤ length replies.old) }
     ensures { Turned s records.old replies.old result records.new
         replies.new }
@@ -144,14 +166,14 @@ fn turn(s: State, records: &mut [u8], replies: &mut [u8]) -> State
     let taken = p.taken;
     let answered = p.answered;
     if taken == 0 {
-        return starve(s, records, replies);
+        return starve(s, records_source, replies_source, records, replies);
     }
     stream::shift(records, taken, n);
     stream::shift(replies, answered, k);
     let book = p.book;
     let named = p.blamed;
-    let x = stream::files::without(a, taken);
-    let y = stream::files::without(b, answered);
+    let x = files::without(a, taken);
+    let y = files::without(b, answered);
     State {
         book,
         number: watch::plus(s.number, p.pairs),
@@ -165,14 +187,21 @@ fn turn(s: State, records: &mut [u8], replies: &mut [u8]) -> State
 }
 
 // Turn after turn from a new book. Nothing says that the files end, so the turns are counted.
-fn run(records_fd: i32, replies_fd: i32, records: &mut [u8], replies: &mut [u8]) -> State
+fn run<R: Read>(
+    records_fd: i32,
+    replies_fd: i32,
+    records_source: &mut R,
+    replies_source: &mut R,
+    records: &mut [u8],
+    replies: &mut [u8],
+) -> State
     ensures { Judges records_fd replies_fd (standing result records.new replies.new) }
 {
     let mut s = State {
         book: Book::new(),
         number: 0,
-        records: stream::files::unread(records_fd),
-        replies: stream::files::unread(replies_fd),
+        records: files::unread(records_fd),
+        replies: files::unread(replies_fd),
         part: 0,
         named: Blamed::Nothing,
         rest: 0,
@@ -180,54 +209,72 @@ fn run(records_fd: i32, replies_fd: i32, records: &mut [u8], replies: &mut [u8])
     };
     let mut left: u64 = 18446744073709551615;
     while left > 0 {
-        s = turn(s, records, replies);
+        s = turn(s, records_source, replies_source, records, replies);
         left = stream::turns_left(left, s.more);
     }
     s
 }
 
-// The buffers and the names are here, of one size for any length of the files.
-fn main() {
-    if os::arg_count() != 3 {
-        io::write_all(2, b"usage: ledger RECORDS REPLIES\n");
-        return;
+// The buffers and the names are here, of one size for any length of the files, which are told apart by their places
+// among the arguments.
+fn main(rt: HostRuntime) -> io::Result<()> {
+    if !files::are_given(&rt, 2) {
+        return eprintln!(rt; "usage: ledger RECORDS REPLIES");
     }
-    let a = stream::files::open(1, b"ledger");
-    let b = stream::files::open(2, b"ledger");
-    if (a < 0) | (b < 0) {
-        return;
-    }
+    let mut err = rt.stderr();
+    let a = files::open(&rt, &mut err, 1, b"ledger")?;
+    let b = files::open(&rt, &mut err, 2, b"ledger")?;
+    let (Some(mut a), Some(mut b)) = (a, b) else {
+        return Ok(());
+    };
     let mut records = [0u8; INPUT];
     let mut replies = [0u8; INPUT];
-    let mut records_name = io::buffer();
-    let mut replies_name = io::buffer();
-    let n = os::arg(1, &mut records_name);
-    let m = os::arg(2, &mut replies_name);
-    let s = run(a, b, &mut records, &mut replies);
-    finish(s, &records_name[..n], &replies_name[..m]);
+    let s = run(1, 2, &mut a, &mut b, &mut records, &mut replies);
+    let mut records_name = [0u8; NAME];
+    let mut replies_name = [0u8; NAME];
+    let n = files::name(&rt, 1, &mut records_name);
+    let m = files::name(&rt, 2, &mut replies_name);
+    finish(
+        &rt,
+        &mut rt.stdout(),
+        &mut err,
+        s,
+        &a,
+        &b,
+        &records_name[..n],
+        &replies_name[..m],
+    )
 }
 
-// What is said at the end, of files of these names. A run that has not ended has no answer.
-fn finish(s: State, records: &[u8], replies: &[u8]) {
+// What is said at the end, of files of these names. A run that has not ended has no answer. That standard output does
+// not take the answer is not said here.
+fn finish<R: Alloc, O: Write, W: Write, F>(
+    rt: &R,
+    out: &mut O,
+    err: &mut W,
+    s: State,
+    records_source: &Opened<F>,
+    replies_source: &Opened<F>,
+    records: &[u8],
+    replies: &[u8],
+) -> io::Result<()> {
     let a = s.records;
     let b = s.replies;
     let book = s.book;
     if a.failed {
-        stream::files::unreadable(records, b"ledger");
-        return;
+        return files::unreadable(rt, err, records_source, records, b"ledger");
     }
     if b.failed {
-        stream::files::unreadable(replies, b"ledger");
-        return;
+        return files::unreadable(rt, err, replies_source, replies, b"ledger");
     }
     if s.more {
-        io::write_all(2, b"ledger: more reads than there are numbers of 64 bits\n");
-        return;
+        return err.write_all(b"ledger: more reads than there are numbers of 64 bits\n");
     }
     if s.part != 0 {
         let named = s.named;
-        text::broken(watch::plus(s.number, 1), s.part, s.rest, named);
-        return;
+        let _ = text::broken(out, watch::plus(s.number, 1), s.part, s.rest, named);
+        return Ok(());
     }
-    text::kept(book, s.number, s.rest);
+    let _ = text::kept(out, book, s.number, s.rest);
+    Ok(())
 }

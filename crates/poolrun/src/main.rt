@@ -16,7 +16,11 @@ use filter::{After, Answered};
 use format::kinds;
 use pool::WORDS;
 use session::FRONT;
+use std::io;
+use std::io::{Read, Write};
 use store::Store;
+use stream::files;
+use stream::files::NAME;
 
 // A call has at most 65,539 bytes, so there is always room to read on behind one that is not whole yet.
 const INPUT: usize = 131072;
@@ -144,7 +148,9 @@ fn answer(
 }
 
 // Answers what is whole and writes the answers; reads on only where nothing is whole, so no answer waits for input.
-fn turn(
+fn turn<R: Read, W: Write>(
+    source: &mut R,
+    sink: &mut W,
     pool: &mut [u64; WORDS],
     front: &mut [u32; FRONT],
     sets: &mut [u32; Store::CAPACITY],
@@ -163,11 +169,13 @@ fn turn(
         result input.new output.new }
 {
     let a = answer(pool, front, sets, store, &input[..held], output);
-    filter::go_on(a, held, input, output)
+    filter::go_on(source, sink, a, held, input, output)
 }
 
 // Turn after turn from the pool that the memory is. Nothing says that the input ends, so the turns are counted.
-fn run(
+fn run<R: Read, W: Write>(
+    source: &mut R,
+    sink: &mut W,
     pool: &mut [u64; WORDS],
     front: &mut [u32; FRONT],
     sets: &mut [u32; Store::CAPACITY],
@@ -185,7 +193,9 @@ fn run(
     let mut t = filter::start();
     let mut left: u64 = 18446744073709551615;
     while left > 0 {
-        t = turn(pool, front, sets, store, t.held, input, output);
+        t = turn(
+            source, sink, pool, front, sets, store, t.held, input, output,
+        );
         left = stream::turns_left(left, t.more);
     }
     t
@@ -214,23 +224,23 @@ fn count_of(word: &[u8]) -> u32
 }
 
 // What failed is named on standard error.
-fn finish(t: After) {
+fn finish<E: Eprint>(rt: &E, t: After) -> io::Result<()> {
     if t.unread {
-        io::write_all(2, b"pool: standard input can't be read\n");
+        eprintln!(rt; "pool: standard input can't be read")?;
     }
     if t.unwritten {
-        io::write_all(2, b"pool: standard output can't be written\n");
+        eprintln!(rt; "pool: standard output can't be written")?;
     }
+    Ok(())
 }
 
 // The pool and both buffers are here, of one size for any length of input.
-fn main() {
-    if os::arg_count() != 2 {
-        io::write_all(2, b"usage: pool SURFACES\n");
-        return;
+fn main(rt: HostRuntime) -> io::Result<()> {
+    if !files::are_given(&rt, 1) {
+        return eprintln!(rt; "usage: pool SURFACES");
     }
-    let mut word = io::buffer();
-    let n = os::arg(1, &mut word);
+    let mut word = [0u8; NAME];
+    let n = files::name(&rt, 1, &mut word);
     let mut pool = [0u64; WORDS];
     let mut front = [0u32; FRONT];
     let mut sets = [0u32; Store::CAPACITY];
@@ -238,12 +248,15 @@ fn main() {
     let surfaces = count_of(&word[..n]);
     let number = pool::make(&mut pool, &mut front, &mut sets, &mut store, surfaces);
     if number != 0 {
-        io::write_all(2, b"pool: 20: SURFACES must be a number from 1 to 64\n");
-        return;
+        return eprintln!(rt; "pool: 20: SURFACES must be a number from 1 to 64");
     }
+    let mut source = rt.stdin();
+    let mut sink = rt.stdout();
     let mut input = [0u8; INPUT];
     let mut output = [0u8; OUTPUT];
     let t = run(
+        &mut source,
+        &mut sink,
         &mut pool,
         &mut front,
         &mut sets,
@@ -251,5 +264,5 @@ fn main() {
         &mut input,
         &mut output,
     );
-    finish(t);
+    finish(&rt, t)
 }

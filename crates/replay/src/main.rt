@@ -13,6 +13,8 @@ ghost use Rattle.replay.specs.Machine.{sessions};
 
 use filter::{After, Answered};
 use session::{Answer, FRONT};
+use std::io;
+use std::io::{Read, Write};
 use store::Store;
 
 // A record has at most 65,539 bytes, so there is always room to read on behind one that is not whole yet.
@@ -70,7 +72,9 @@ fn answer(
 }
 
 // Answers what is whole and writes the replies; reads on only where nothing is whole, so that no reply waits for input.
-fn turn(
+fn turn<R: Read, W: Write>(
+    source: &mut R,
+    sink: &mut W,
     front: &mut [u32; FRONT],
     sets: &mut [u32; Store::CAPACITY],
     store: &mut [u32; Store::WORDS],
@@ -87,11 +91,13 @@ fn turn(
         input.new output.new }
 {
     let a = answer(front, sets, store, &input[..held], output);
-    filter::go_on(a, held, input, output)
+    filter::go_on(source, sink, a, held, input, output)
 }
 
 // Turn after turn from a fresh session. Nothing says that the input ends, so the turns are counted.
-fn run(
+fn run<R: Read, W: Write>(
+    source: &mut R,
+    sink: &mut W,
     front: &mut [u32; FRONT],
     sets: &mut [u32; Store::CAPACITY],
     store: &mut [u32; Store::WORDS],
@@ -107,29 +113,40 @@ fn run(
     let mut t = filter::start();
     let mut left: u64 = 18446744073709551615;
     while left > 0 {
-        t = turn(front, sets, store, t.held, input, output);
+        t = turn(source, sink, front, sets, store, t.held, input, output);
         left = stream::turns_left(left, t.more);
     }
     t
 }
 
 // What failed is named on standard error.
-fn finish(t: After) {
+fn finish<E: Eprint>(rt: &E, t: After) -> io::Result<()> {
     if t.unread {
-        io::write_all(2, b"replay: standard input can't be read\n");
+        eprintln!(rt; "replay: standard input can't be read")?;
     }
     if t.unwritten {
-        io::write_all(2, b"replay: standard output can't be written\n");
+        eprintln!(rt; "replay: standard output can't be written")?;
     }
+    Ok(())
 }
 
 // The session and both buffers are here, of one size for any length of input.
-fn main() {
+fn main(rt: HostRuntime) -> io::Result<()> {
+    let mut source = rt.stdin();
+    let mut sink = rt.stdout();
     let mut front = [0u32; FRONT];
     let mut sets = [0u32; Store::CAPACITY];
     let mut store = [0u32; Store::WORDS];
     let mut input = [0u8; INPUT];
     let mut output = [0u8; OUTPUT];
-    let t = run(&mut front, &mut sets, &mut store, &mut input, &mut output);
-    finish(t);
+    let t = run(
+        &mut source,
+        &mut sink,
+        &mut front,
+        &mut sets,
+        &mut store,
+        &mut input,
+        &mut output,
+    );
+    finish(&rt, t)
 }

@@ -13,6 +13,8 @@ ghost use Rattle.show.specs.Stream.{Added, Lines};
 ghost use Rattle.show.specs.Turns.{stopped_at, Last, FedBy, Turned, standing, Shows};
 
 use paper::Reading;
+use std::io;
+use std::io::{Read as Source, Write};
 use stream::Read;
 
 // A reply has at most 65,539 bytes, so there is always room to read on behind one that is not whole yet.
@@ -99,7 +101,7 @@ fn lines(st: Reading, number: u64, bytes: &[u8], out: &mut [u8]) -> Lined
 }
 
 // The end of the input: the last line, for the `held` bytes that are no whole reply, or none where nothing waits.
-fn last(st: Reading, next: u64, held: usize, output: &mut [u8]) -> After
+fn last<W: Write>(sink: &mut W, st: Reading, next: u64, held: usize, output: &mut [u8]) -> After
     requires { 28457 ≤ length output.old }
     ensures { Last st next held output.old result output.new }
 {
@@ -107,7 +109,7 @@ fn last(st: Reading, next: u64, held: usize, output: &mut [u8]) -> After
         return stopped(st, next, held, false);
     }
     let made = replies::rest(next, held, output);
-    let wrote = io::write_all(1, &output[..made]);
+    let wrote = sink.write_all(&output[..made]).is_ok();
     After {
         next,
         held,
@@ -136,7 +138,14 @@ fn stopped(st: Reading, next: u64, held: usize, unread: bool) -> After
 
 // What a turn gives that only read: the run goes on where something was read, and else ends, with the last line unless
 // the read failed.
-fn fed(st: Reading, next: u64, held: usize, r: Read, output: &mut [u8]) -> After
+fn fed<W: Write>(
+    sink: &mut W,
+    st: Reading,
+    next: u64,
+    held: usize,
+    r: Read,
+    output: &mut [u8],
+) -> After
     requires { 28457 ≤ length output.old }
     ensures { FedBy st next held r output.old result output.new }
 {
@@ -155,11 +164,19 @@ fn fed(st: Reading, next: u64, held: usize, r: Read, output: &mut [u8]) -> After
     if r.failed {
         return stopped(st, next, now, true);
     }
-    last(st, next, now, output)
+    last(sink, st, next, now, output)
 }
 
 // Writes the lines of what is whole; reads on only where nothing is whole, so that no line waits for input.
-fn turn(st: Reading, next: u64, held: usize, input: &mut [u8], output: &mut [u8]) -> After
+fn turn<R: Source, W: Write>(
+    source: &mut R,
+    sink: &mut W,
+    st: Reading,
+    next: u64,
+    held: usize,
+    input: &mut [u8],
+    output: &mut [u8],
+) -> After
     requires held_in_bounds { held ≤ length input.old }
     requires in_bounds { (65539 ≤ length input.old) × (28457 ≤ length output.old) }
     ensures held_in_bounds_2 { result.held ≤ length input.new }
@@ -169,12 +186,12 @@ fn turn(st: Reading, next: u64, held: usize, input: &mut [u8], output: &mut [u8]
     let l = lines(st, next, &input[..held], output);
     let taken = l.taken;
     if taken == 0 {
-        let r = stream::read_on(0, held, input);
-        return fed(st, next, held, r, output);
+        let r = stream::read_on(source, held, input);
+        return fed(sink, st, next, held, r, output);
     }
     let made = l.made;
     let reading = l.reading;
-    let more = stream::write_front(output, made).wrote;
+    let more = stream::write_front(sink, output, made).wrote;
     stream::shift(input, taken, held);
     After {
         next: l.next,
@@ -188,7 +205,12 @@ fn turn(st: Reading, next: u64, held: usize, input: &mut [u8], output: &mut [u8]
 }
 
 // Turn after turn from the first reply. Nothing says that the input ends, so the turns are counted.
-fn run(input: &mut [u8], output: &mut [u8]) -> After
+fn run<R: Source, W: Write>(
+    source: &mut R,
+    sink: &mut W,
+    input: &mut [u8],
+    output: &mut [u8],
+) -> After
     requires { (65539 ≤ length input.old) × (28457 ≤ length output.old) }
     ensures { Shows (standing result input.new output.new) }
 {
@@ -204,26 +226,29 @@ fn run(input: &mut [u8], output: &mut [u8]) -> After
     let mut left: u64 = 18446744073709551615;
     while left > 0 {
         let st = t.reading;
-        t = turn(st, t.next, t.held, input, output);
+        t = turn(source, sink, st, t.next, t.held, input, output);
         left = stream::turns_left(left, t.more);
     }
     t
 }
 
 // What failed is named on standard error.
-fn finish(t: After) {
+fn finish<E: Eprint>(rt: &E, t: After) -> io::Result<()> {
     if t.unread {
-        io::write_all(2, b"show: standard input can't be read\n");
+        eprintln!(rt; "show: standard input can't be read")?;
     }
     if t.unwritten {
-        io::write_all(2, b"show: standard output can't be written\n");
+        eprintln!(rt; "show: standard output can't be written")?;
     }
+    Ok(())
 }
 
 // Both buffers are here, of one size for any length of input.
-fn main() {
+fn main(rt: HostRuntime) -> io::Result<()> {
+    let mut source = rt.stdin();
+    let mut sink = rt.stdout();
     let mut input = [0u8; INPUT];
     let mut output = [0u8; OUTPUT];
-    let t = run(&mut input, &mut output);
-    finish(t);
+    let t = run(&mut source, &mut sink, &mut input, &mut output);
+    finish(&rt, t)
 }
