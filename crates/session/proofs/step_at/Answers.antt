@@ -25,7 +25,7 @@ returns-then-reply-lt-REPLY c = no_room c.number.ensures c.if-reply-lt-REPLY.tru
 
 pub lists-requires : goal.lists-requires
 lists-requires c =
-    (formed 2 c.before.before.args.msg.now c.kind_of.ensures c.in-3.is, search rules)
+    (formed 2 c.args.msg.now c.kind_of.ensures c.in-3.is, search rules)
 
 pub returns-in-1 : goal.returns-in-1
 returns-in-1 c = goes c.args.target c.args.msg.now c.if-reply-lt-REPLY.false c.kind_of.ensures 0 refl c.in-1.is (c.configure.ensures _)
@@ -38,7 +38,7 @@ returns-in-2 c =
     goes_begin c.args.target c.args.msg.now c.if-reply-lt-REPLY.false c.kind_of.ensures (fits) c.in-2.is c.begin.ensures
 
 pub returns-in-3 : goal.returns-in-3
-returns-in-3 c = goes c.before.before.args.target c.before.before.args.msg.now c.if-reply-lt-REPLY.false c.kind_of.ensures 2 refl c.in-3.is (lists_do _ _ (c.lists.ensures _))
+returns-in-3 c = goes c.args.target c.args.msg.now c.if-reply-lt-REPLY.false c.kind_of.ensures 2 refl c.in-3.is (lists_do _ _ (c.lists.ensures _))
 
 pub returns-in-4 : goal.returns-in-4
 returns-in-4 c = goes c.args.target c.args.msg.now c.if-reply-lt-REPLY.false c.kind_of.ensures 3 refl c.in-4.is (c.finish.ensures _)
@@ -57,5 +57,5 @@ returns-in-8 c = goes c.args.target c.args.msg.now c.if-reply-lt-REPLY.false c.k
 
 pub returns-in_default : goal.returns-in_default
 returns-in_default c =
-    let w = malformed c.args.msg.now c.kind_of.ensures c.in_default.rest.0.0.0.0.0.0.0.1 c.in_default.rest.0.0.0.0.0.0.1 c.in_default.rest.0.0.0.0.0.1 c.in_default.rest.0.0.0.0.1 c.in_default.rest.0.0.0.1 c.in_default.rest.0.0.1 c.in_default.rest.0.1 c.in_default.rest.1 in
+    let w = malformed c.args.msg.now c.kind_of.ensures (λ e. omega arith) (λ e. omega arith) (λ e. omega arith) (λ e. omega arith) (λ e. omega arith) (λ e. omega arith) (λ e. omega arith) (λ e. omega arith) in
     goes_not c.args.target c.args.msg.now c.if-reply-lt-REPLY.false c.kind_of.ensures w (does_refuse refl c.refuse.ensures)

@@ -44,7 +44,7 @@ returns-then-is_busy c =
     let set_up : not (session).configured ≡ false =
     ap not (sym c.is_configured.ensures) ∙ c.if-not-is_configured.false-raw
     in
-       does_refuse (begin_3 (session) (fields) (set_up) (is_now c.before.before.args.front.now ∙ sym c.is_busy.ensures ∙ c.if-is_busy.true)) c.refuse-then-is_busy.ensures
+       does_refuse (begin_3 (session) (fields) (set_up) (is_now c.args.front.now ∙ sym c.is_busy.ensures ∙ c.if-is_busy.true)) c.refuse-then-is_busy.ensures
 
 pub returns-then-not-begin_ranges : goal.returns-then-not-begin_ranges
 unfolding front_in
@@ -55,23 +55,19 @@ returns-then-not-begin_ranges c =
     let fields : Fields =
     fields_at c.args.target c.args.msg.now
     in
-    let start-3 : tie.Start =
-    c.before.before
-    in
     let set_up : not (session).configured ≡ false =
     ap not (sym c.is_configured.ensures) ∙ c.if-not-is_configured.false-raw
     in
-    let idle : is_current (session (start-3)).current ≡ false =
-    is_now (start-3).args.front.now ∙ sym c.is_busy.ensures ∙ c.if-is_busy.false
+    let idle : is_current (session).current ≡ false =
+    is_now c.args.front.now ∙ sym c.is_busy.ensures ∙ c.if-is_busy.false
     in
-    let read : fields_with c.begin_fields-h.result.surface (start-3).args.msg.now ≡ fields (start-3) =
-    let s = start-3 in fields_as s.args.target s.args.msg.now c.begin_fields-h.ensures
+    let read : fields_with c.begin_fields-h.result.surface c.args.msg.now ≡ fields =
+    fields_as c.args.target c.args.msg.now c.begin_fields-h.ensures
     in
-    let ranges : c.begin_ranges.result ≡ begin_ranges (modulus (session (start-3)).limits) (fields (start-3)) =
+    let ranges : c.begin_ranges.result ≡ begin_ranges (modulus (session).limits) (fields) =
     c.begin_ranges.ensures ∙ (λ i. begin_ranges (modulus (c.limits_in-l.ensures i)) (read i))
     in
-       let s = start-3 in
-    does_refuse (begin_5 (session s) (fields s) (set_up) (idle) (ap not (sym (ranges)) ∙ c.if-not-begin_ranges.true-raw)) c.refuse-then-not-begin_ranges.ensures
+       does_refuse (begin_5 (session) (fields) (set_up) (idle) (ap not (sym (ranges)) ∙ c.if-not-begin_ranges.true-raw)) c.refuse-then-not-begin_ranges.ensures
 
 pub returns-then-next_serial-eq-MISSING : goal.returns-then-next_serial-eq-MISSING
 unfolding front_in
@@ -82,32 +78,25 @@ returns-then-next_serial-eq-MISSING c =
     let fields : Fields =
     fields_at c.args.target c.args.msg.now
     in
-    let start-3 : tie.Start =
-    c.before.before
-    in
-    let start-5 : tie.Start =
-    start-3
-    in
     let set_up : not (session).configured ≡ false =
     ap not (sym c.is_configured.ensures) ∙ c.if-not-is_configured.false-raw
     in
-    let idle : is_current (session (start-3)).current ≡ false =
-    is_now (start-3).args.front.now ∙ sym c.is_busy.ensures ∙ c.if-is_busy.false
+    let idle : is_current (session).current ≡ false =
+    is_now c.args.front.now ∙ sym c.is_busy.ensures ∙ c.if-is_busy.false
     in
-    let read : fields_with c.begin_fields-h.result.surface (start-3).args.msg.now ≡ fields (start-3) =
-    let s = start-3 in fields_as s.args.target s.args.msg.now c.begin_fields-h.ensures
+    let read : fields_with c.begin_fields-h.result.surface c.args.msg.now ≡ fields =
+    fields_as c.args.target c.args.msg.now c.begin_fields-h.ensures
     in
-    let ranges : c.begin_ranges.result ≡ begin_ranges (modulus (session (start-3)).limits) (fields (start-3)) =
+    let ranges : c.begin_ranges.result ≡ begin_ranges (modulus (session).limits) (fields) =
     c.begin_ranges.ensures ∙ (λ i. begin_ranges (modulus (c.limits_in-l.ensures i)) (read i))
     in
-    let within : not (begin_ranges (modulus (session (start-5)).limits) (fields (start-5))) ≡ false =
+    let within : not (begin_ranges (modulus (session).limits) (fields)) ≡ false =
     ap not (sym (ranges)) ∙ c.if-not-begin_ranges.false-raw
     in
-    let last : eqb (session (start-5)).next missing.0 ≡ eqb c.next_serial.result.0 missing.0 =
+    let last : eqb (session).next missing.0 ≡ eqb c.next_serial.result.0 missing.0 =
     ap (λ (n : Serial). eqb n.0 missing.0) (sym c.next_serial.ensures)
     in
-       let s = start-5 in
-    does_refuse (begin_8 (session s) (fields s) (set_up) (idle) (within) (last ∙ eq-eqb _ _ c.if-next_serial-eq-MISSING.true)) c.refuse-then-next_serial-eq-MISSING.ensures
+       does_refuse (begin_8 (session) (fields) (set_up) (idle) (within) (last ∙ eq-eqb _ _ c.if-next_serial-eq-MISSING.true)) c.refuse-then-next_serial-eq-MISSING.ensures
 
 pub returns-then-holds_surface : goal.returns-then-holds_surface
 unfolding fields_with front_in
@@ -118,41 +107,31 @@ returns-then-holds_surface c =
     let fields : Fields =
     fields_at c.args.target c.args.msg.now
     in
-    let start-3 : tie.Start =
-    c.before.before
-    in
-    let start-5 : tie.Start =
-    start-3
-    in
-    let start-8 : tie.Start =
-    start-5
-    in
     let set_up : not (session).configured ≡ false =
     ap not (sym c.is_configured.ensures) ∙ c.if-not-is_configured.false-raw
     in
-    let idle : is_current (session (start-3)).current ≡ false =
-    is_now (start-3).args.front.now ∙ sym c.is_busy.ensures ∙ c.if-is_busy.false
+    let idle : is_current (session).current ≡ false =
+    is_now c.args.front.now ∙ sym c.is_busy.ensures ∙ c.if-is_busy.false
     in
-    let read : fields_with c.begin_fields-h.result.surface (start-3).args.msg.now ≡ fields (start-3) =
-    let s = start-3 in fields_as s.args.target s.args.msg.now c.begin_fields-h.ensures
+    let read : fields_with c.begin_fields-h.result.surface c.args.msg.now ≡ fields =
+    fields_as c.args.target c.args.msg.now c.begin_fields-h.ensures
     in
-    let ranges : c.begin_ranges.result ≡ begin_ranges (modulus (session (start-3)).limits) (fields (start-3)) =
+    let ranges : c.begin_ranges.result ≡ begin_ranges (modulus (session).limits) (fields) =
     c.begin_ranges.ensures ∙ (λ i. begin_ranges (modulus (c.limits_in-l.ensures i)) (read i))
     in
-    let within : not (begin_ranges (modulus (session (start-5)).limits) (fields (start-5))) ≡ false =
+    let within : not (begin_ranges (modulus (session).limits) (fields)) ≡ false =
     ap not (sym (ranges)) ∙ c.if-not-begin_ranges.false-raw
     in
-    let last : eqb (session (start-5)).next missing.0 ≡ eqb c.next_serial.result.0 missing.0 =
+    let last : eqb (session).next missing.0 ≡ eqb c.next_serial.result.0 missing.0 =
     ap (λ (n : Serial). eqb n.0 missing.0) (sym c.next_serial.ensures)
     in
-    let unspent : eqb (session (start-8)).next missing.0 ≡ false =
+    let unspent : eqb (session).next missing.0 ≡ false =
     last ∙ ne_eqb _ _ c.if-next_serial-eq-MISSING.false
     in
-    let held : c.holds_surface.result ≡ any_b (held_by (fields (start-8)).surface) (session (start-8)).store =
-    c.holds_surface.ensures ∙ ap (λ (f : Fields). any_b (held_by f.surface) (session (start-8)).store) (read)
+    let held : c.holds_surface.result ≡ any_b (held_by (fields).surface) (session).store =
+    c.holds_surface.ensures ∙ ap (λ (f : Fields). any_b (held_by f.surface) (session).store) (read)
     in
-       let s = start-8 in
-    does_refuse (begin_7 (session s) (fields s) (set_up) (idle) (within) (unspent) (sym (held) ∙ c.if-holds_surface.true)) c.refuse-then-holds_surface.ensures
+       does_refuse (begin_7 (session) (fields) (set_up) (idle) (within) (unspent) (sym (held) ∙ c.if-holds_surface.true)) c.refuse-then-holds_surface.ensures
 
 pub begin_inside-requires : goal.begin_inside-requires
 unfolding front_in
@@ -163,47 +142,38 @@ begin_inside-requires c =
     let fields : Fields =
     fields_at c.args.target c.args.msg.now
     in
-    let start-3 : tie.Start =
-    c.before.before
-    in
-    let start-5 : tie.Start =
-    start-3
-    in
-    let start-8 : tie.Start =
-    start-5
-    in
     let set_up : not (session).configured ≡ false =
     ap not (sym c.is_configured.ensures) ∙ c.if-not-is_configured.false-raw
     in
-    let idle : is_current (session (start-3)).current ≡ false =
-    is_now (start-3).args.front.now ∙ sym c.is_busy.ensures ∙ c.if-is_busy.false
+    let idle : is_current (session).current ≡ false =
+    is_now c.args.front.now ∙ sym c.is_busy.ensures ∙ c.if-is_busy.false
     in
-    let read : fields_with c.begin_fields-h.result.surface (start-3).args.msg.now ≡ fields (start-3) =
-    let s = start-3 in fields_as s.args.target s.args.msg.now c.begin_fields-h.ensures
+    let read : fields_with c.begin_fields-h.result.surface c.args.msg.now ≡ fields =
+    fields_as c.args.target c.args.msg.now c.begin_fields-h.ensures
     in
-    let ranges : c.begin_ranges.result ≡ begin_ranges (modulus (session (start-3)).limits) (fields (start-3)) =
+    let ranges : c.begin_ranges.result ≡ begin_ranges (modulus (session).limits) (fields) =
     c.begin_ranges.ensures ∙ (λ i. begin_ranges (modulus (c.limits_in-l.ensures i)) (read i))
     in
-    let within : not (begin_ranges (modulus (session (start-5)).limits) (fields (start-5))) ≡ false =
+    let within : not (begin_ranges (modulus (session).limits) (fields)) ≡ false =
     ap not (sym (ranges)) ∙ c.if-not-begin_ranges.false-raw
     in
-    let last : eqb (session (start-5)).next missing.0 ≡ eqb c.next_serial.result.0 missing.0 =
+    let last : eqb (session).next missing.0 ≡ eqb c.next_serial.result.0 missing.0 =
     ap (λ (n : Serial). eqb n.0 missing.0) (sym c.next_serial.ensures)
     in
-    let unspent : eqb (session (start-8)).next missing.0 ≡ false =
+    let unspent : eqb (session).next missing.0 ≡ false =
     last ∙ ne_eqb _ _ c.if-next_serial-eq-MISSING.false
     in
-       let s = start-8 in (
+        (
       record {
         limits = c.limits_in-l.ensures;
-        fields = read_as s.args.target s.args.msg.now c.begin_fields-h.ensures;
+        fields = read_as c.args.target c.args.msg.now c.begin_fields-h.ensures;
         configured = not-false _ (set_up);
         idle = idle;
-        ranges = ap (begin_ranges (modulus (session s).limits)) (read) ∙ not-false _ (within);
+        ranges = ap (begin_ranges (modulus (session).limits)) (read) ∙ not-false _ (within);
         roomy = unspent;
         free = sym c.holds_surface.ensures ∙ c.if-holds_surface.false;
       },
-      s.pre,
+      c.requires,
     )
 
 pub returns : goal.returns
@@ -211,16 +181,10 @@ returns c =
     let session : Session =
     session_in (memory c.args.front.now c.args.sets.now c.args.store.now)
     in
-    let start-3 : tie.Start =
-    c.before.before
+    let fields : Fields =
+    fields_at c.args.target c.args.msg.now
     in
-    let start-5 : tie.Start =
-    start-3
+    let read : fields_with c.begin_fields-h.result.surface c.args.msg.now ≡ fields =
+    fields_as c.args.target c.args.msg.now c.begin_fields-h.ensures
     in
-    let start-8 : tie.Start =
-    start-5
-    in
-    let read : fields_with c.begin_fields-h.result.surface (start-3).args.msg.now ≡ fields (start-3) =
-    let s = start-3 in fields_as s.args.target s.args.msg.now c.begin_fields-h.ensures
-    in
-       as_decided (ap (begin_of (session (start-8))) (sym (read))) c.begin_inside.ensures
+       as_decided (ap (begin_of (session)) (sym (read))) c.begin_inside.ensures

@@ -14,14 +14,17 @@ use Rattle.session.proofs.begin.begin_inside.Goals as goal
 pub begin_at-requires : goal.begin_at-requires
 unfolding front_in
 begin_at-requires c =
-    let counted : Counted (session c.before.before.before) c.before.before.before.args.h c.flags_of-flags.result c.derive_poc.result =
+    let session : Session =
+    session_in (memory c.args.front.now c.args.sets.now c.args.store.now)
+    in
+    let counted : Counted (session) c.args.h c.flags_of-flags.result c.derive_poc.result =
     record {
-      flags = c.flags_of-flags.ensures ∙ (λ i. flags_from (c.is_first.ensures i) (c.is_ended.ensures i) c.before.before.before.args.h);
-      poc = c.derive_poc.ensures.answer ∙ (λ i. poc_answer (modulus (c.before.before.before.requires.0.limits i)) ((c.prev_for.ensures ∙ ap (prev_from c.flags_of-flags.result.over) c.prev_in-q.ensures) i) c.before.before.before.args.h.lsb);
+      flags = c.flags_of-flags.ensures ∙ (λ i. flags_from (c.is_first.ensures i) (c.is_ended.ensures i) c.args.h);
+      poc = c.derive_poc.ensures.answer ∙ (λ i. poc_answer (modulus (c.requires.0.limits i)) ((c.prev_for.ensures ∙ ap (prev_from c.flags_of-flags.result.over) c.prev_in-q.ensures) i) c.args.h.lsb);
     }
     in
        
-    (placed c.before.before.before.pre.0 (counted) _ _ c.in-Val.is, c.before.before.before.pre.1)
+    (placed c.requires.0 (counted) _ _ c.in-Val.is, c.requires.1)
 
 pub returns-in-Outside : goal.returns-in-Outside
 unfolding front_in
@@ -29,10 +32,10 @@ returns-in-Outside c =
     let session : Session =
     session_in (memory c.args.front.now c.args.sets.now c.args.store.now)
     in
-    let counted : Counted (session) c.before.before.before.args.h c.flags_of-flags.result c.derive_poc.result =
+    let counted : Counted (session) c.args.h c.flags_of-flags.result c.derive_poc.result =
     record {
-      flags = c.flags_of-flags.ensures ∙ (λ i. flags_from (c.is_first.ensures i) (c.is_ended.ensures i) c.before.before.before.args.h);
-      poc = c.derive_poc.ensures.answer ∙ (λ i. poc_answer (modulus (c.before.before.before.requires.0.limits i)) ((c.prev_for.ensures ∙ ap (prev_from c.flags_of-flags.result.over) c.prev_in-q.ensures) i) c.before.before.before.args.h.lsb);
+      flags = c.flags_of-flags.ensures ∙ (λ i. flags_from (c.is_first.ensures i) (c.is_ended.ensures i) c.args.h);
+      poc = c.derive_poc.ensures.answer ∙ (λ i. poc_answer (modulus (c.requires.0.limits i)) ((c.prev_for.ensures ∙ ap (prev_from c.flags_of-flags.result.over) c.prev_in-q.ensures) i) c.args.h.lsb);
     }
     in
-       does_refuse (outside (session) c.before.before.before.args.msg.now c.before.before.before.pre.0 (no_poc c.before.before.before.pre.0 (counted) c.in-Outside.is)) c.refuse.ensures
+       does_refuse (outside (session) c.args.msg.now c.requires.0 (no_poc c.requires.0 (counted) c.in-Outside.is)) c.refuse.ensures

@@ -16,16 +16,16 @@ use Rattle.session.proofs.begin.begun.Goals as goal
 
 pub put_begun-a-requires : goal.put_begun-a-requires
 put_begun-a-requires c =
-    (few_members c.derive_and_mark_rps-d.ensures.sets, (tail_good c.update_dpb_before_decoding-m.ensures.tail, c.before.before.before.pre.1))
+    (few_members c.derive_and_mark_rps-d.ensures.sets, (tail_good c.update_dpb_before_decoding-m.ensures.tail, c.requires.1))
 
 pub returns : goal.returns
 unfolding front_in
 returns c =
     let t =
-    tells c.before.before.before.args.front.now c.derive_and_mark_rps-d.result.first c.derive_and_mark_rps-d.result.second (stored_in c.derive_and_mark_rps-d.result.store) c.before.before.before.args.store.now c.before.before.before.args.t c.derive_and_mark_rps-d.result.sizes c.before.before.before.pre.0.placed.passed.limits c.is_ended.ensures
-    (c.told_of.ensures ∙ ap (λ (k : Serial). told_from k.0 c.before.before.before.args.t) c.next_serial-next.ensures) c.update_dpb_before_decoding-m.ensures c.put_begun-a.ensures
+    tells c.args.front.now c.derive_and_mark_rps-d.result.first c.derive_and_mark_rps-d.result.second (stored_in c.derive_and_mark_rps-d.result.store) c.args.store.now c.args.t c.derive_and_mark_rps-d.result.sizes c.requires.0.placed.passed.limits c.is_ended.ensures
+    (c.told_of.ensures ∙ ap (λ (k : Serial). told_from k.0 c.args.t) c.next_serial-next.ensures) c.update_dpb_before_decoding-m.ensures c.put_begun-a.ensures
     in
-    begun_does (memory c.before.before.before.args.front.now c.before.before.before.args.sets.now c.before.before.before.args.store.now) c.before.before.before.args.msg.now c.before.before.before.args.h c.before.before.before.args.t c.before.before.before.args.pocs.now c.before.before.before.args.hows.now c.before.before.before.pre.0 c.derive_and_mark_rps-d.result c.derive_and_mark_rps-d.ensures t
+    begun_does (memory c.args.front.now c.args.sets.now c.args.store.now) c.args.msg.now c.args.h c.args.t c.args.pocs.now c.args.hows.now c.requires.0 c.derive_and_mark_rps-d.result c.derive_and_mark_rps-d.ensures t
     c.put_members.new.sets c.put_members.ensures.long c.put_members.ensures.members c.put_members.ensures.behind c.put_begun.ensures.front c.put_begun.ensures.words
-    (c.current_of.ensures ∙ ap (λ (k : Serial). current_from k.0 c.before.before.before.args.h c.before.before.before.args.t) c.next_serial-next.ensures) c.refs_of.ensures
+    (c.current_of.ensures ∙ ap (λ (k : Serial). current_from k.0 c.args.h c.args.t) c.next_serial-next.ensures) c.refs_of.ensures
     (c.next_after.ensures ∙ ap (λ (k : Serial). cond (eqb k.0 4294967295) 0 (k.0 + 1)) c.next_serial-next.ensures)

@@ -42,5 +42,5 @@ returns c =
     in
        let m = first_count in
     let n = second_count in
-    let bad : List ℕ → Bool = any_b (λ (c : ℕ). leb c.args.n c) in
+    let bad : List ℕ → Bool = any_b (λ (e : ℕ). leb c.args.n e) in
     ap₂ (λ (p q : Bool). p || q) (c.bad_entry.ensures ∙ ap bad (entries_0 c.args.msg.now c.requires.0 m)) (c.bad_entry-2.ensures ∙ ap bad (entries_1 c.args.msg.now c.requires.0 m n))

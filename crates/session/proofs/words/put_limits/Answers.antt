@@ -5,9 +5,4 @@ use Rattle.session.proofs.Fronts.{front_limits, words_limits}
 use Rattle.session.proofs.words.put_limits.Goals as goal
 
 pub returns : goal.returns
-returns c =
-    let whole = (
-      front_limits c.args.h.now c.count_front.ensures.1 c.args.l (search rules) (search rules) (search rules) (search rules) (search rules),
-      λ f e. words_limits c.args.h.now f e c.args.l,
-    ) in
-    record { front = whole.0; words = whole.1 }
+returns c = record { front = front_limits c.args.h.now c.count_front.ensures.1 c.args.l (search rules) (search rules) (search rules) (search rules) (search rules); words = λ f e. words_limits c.args.h.now f e c.args.l }
