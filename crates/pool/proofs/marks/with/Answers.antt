@@ -1,0 +1,10 @@
+-- The bit of a surface of the pool is set, and no other bit is changed.
+use Rattle.pool.proofs.MarkLaws.{with_bit, with_none}
+use native.Mathlib.Omega.{arith}
+use borrow.Author.Rules.{rules}
+
+use Rattle.pool.proofs.marks.with.Goals as goal
+
+pub returns-then-x-n : goal.returns-then-x-n
+returns-then-x-n c = λ i.
+    rw c.one.ensures (with_bit c.args.bits c.args.n c.args.x i (omega arith))

@@ -1,0 +1,10 @@
+-- The bit of a surface of the pool is off, and no other bit is changed.
+use Rattle.pool.proofs.MarkLaws.{without_bit, without_none}
+use native.Mathlib.Omega.{arith}
+use borrow.Author.Rules.{rules}
+
+use Rattle.pool.proofs.marks.without.Goals as goal
+
+pub returns-then-x-n : goal.returns-then-x-n
+returns-then-x-n c = λ i.
+    rw c.one.ensures (without_bit c.args.bits c.args.n c.args.x i (omega arith))
