@@ -15,6 +15,12 @@ use Rattle.pool.proofs.StepLaws.{reply_fits, reply_taken, refuses_left, refuses,
 
 use Rattle.pool.proofs.step.Goals as goal
 
+pub slice_bounds-account-end : goal.slice_bounds-account-end
+slice_bounds-account-end c = reply_fits c.step_at-a.ensures
+
+pub slice_bounds-account-end-2 : goal.slice_bounds-account-end-2
+slice_bounds-account-end-2 c = reply_taken c.step_at-a.ensures
+
 pub returns-then-none_left : goal.returns-then-none_left
 returns-then-none_left c =
     let m = memory c.args.front.now c.args.sets.now c.args.store.now in

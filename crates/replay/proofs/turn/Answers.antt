@@ -5,7 +5,6 @@ use borrow.Author.Rules.{rules}
 use lib.ListN.{length}
 use lib.Seq.{length-take-le}
 use Rattle.filter.proofs.Turning.{turned}
-
 use Rattle.replay.proofs.turn.Goals as goal
 
 pub returns : goal.returns
