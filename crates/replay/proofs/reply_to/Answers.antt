@@ -1,8 +1,9 @@
 -- The reply goes into the part of the buffer that is free.
 use Rattle.replay.proofs.Answering.{added}
 use borrow.Author.Rules.{rules}
+
 use Rattle.replay.proofs.reply_to.Goals as goal
 
 pub returns : goal.returns
 returns c =
-    added c.args.made c.args.replies.now c.requires c.step.auto.sets.1.1.1.0 c.step.ensures
+    added c.args.made c.args.replies.now c.requires c.step.auto.reply c.step.ensures

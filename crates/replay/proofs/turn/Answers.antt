@@ -3,13 +3,12 @@ use mathlib.Core.Path.{◌≡◌}
 use native.Mathlib.Omega.{arith}
 use borrow.Author.Rules.{rules}
 use lib.ListN.{length}
-use lib.Seq.{length-take-le}
 use Rattle.filter.proofs.Turning.{turned}
 use Rattle.replay.proofs.turn.Goals as goal
 
 pub returns : goal.returns
-returns c =
-    let same : length c.answer-a.new.sets.1.1.1.0 ≡ length c.args.output.now = c.answer-a.auto.sets.1.1.1.0 in
-    let whole = turned c.args.held c.args.input.now 512 c.requires.held_in_bounds (λ k. (c.slice_known-1.given k).fits) c.requires.in_bounds.0 (omega (arith, c.requires.in_bounds.1, same)) c.answer-a.ensures.within.0
-    c.answer-a.ensures.answers c.answer-a.ensures.all c.go_on.ensures c.go_on.auto.sink.1.0 in
+returns g c =
+    let same : length c.answer-a.new.replies ≡ length c.args.output.now = c.answer-a.auto.replies in
+    let whole = turned c.args.held c.args.input.now 512 c.requires.held_in_bounds (λ k. search rules) c.requires.in_bounds.0 (omega (arith, c.requires.in_bounds.1, same)) c.answer-a.ensures.within.0
+    c.answer-a.ensures.answers c.answer-a.ensures.all c.go_on.ensures c.go_on.auto.input in
     record { held_in_bounds_2 = whole.0; turned = whole.1 }

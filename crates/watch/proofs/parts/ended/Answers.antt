@@ -1,0 +1,13 @@
+-- The tail tells nothing, or something.
+use lib.ListN.{drop}
+use Rattle.paper.specs.Kinds.{rest_place}
+use Rattle.paper.specs.Ledger.{read_tail}
+use mathlib.Core.Path.{◌∙◌, sym}
+use Rattle.watch.proofs.Ways.{ends_14, ends_0}
+use Rattle.watch.proofs.parts.ended.Goals as goal
+
+pub returns-then-is_quiet : goal.returns-then-is_quiet
+returns-then-is_quiet c = ends_0 c.args.b (read_tail c.args.b.reading (drop rest_place c.args.reply.now)) c.requires (sym c.is_quiet.ensures ∙ c.if-is_quiet.true)
+
+pub returns : goal.returns
+returns c = ends_14 c.args.b (read_tail c.args.b.reading (drop rest_place c.args.reply.now)) (sym c.is_quiet.ensures ∙ c.if-is_quiet.false)
