@@ -14,6 +14,9 @@ use Rattle.poolrun.proofs.Answering.{call_long}
 
 use Rattle.poolrun.proofs.answer.Goals as goal
 
+pub loop-made-init : goal.loop-made-init
+loop-made-init c = (omega arith, omega arith, refl, nothing_yet pools _ _ _)
+
 pub loop-made-preserved : goal.loop-made-preserved
 loop-made-preserved c =
     let ends : c.loop-made.taken + c.size-n.result ≤ length c.args.bytes.now =

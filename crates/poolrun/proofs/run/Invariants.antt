@@ -1,22 +1,18 @@
+-- Some turns led here from the pool that the memory was, and the turns that are left fall.
 use Prim.Native.Nat.{◌≤◌}
-use mathlib.Core.Path.{◌≡◌, refl}
-use native.Mathlib.Omega.{arith}
-use borrow.Author.Rules.{rules}
+use mathlib.Core.Path.{◌≡◌}
 use lib.ListN.{length}
 use Rattle.session.specs.View.{memory}
 use Rattle.pool.specs.Memory.{pool_memory, pool_in}
-use Rattle.stream.proofs.Running.{Going, fewer, begins, one_turn}
+use Rattle.stream.proofs.Running.{Going}
 use Rattle.filter.specs.Turns.{standing, Starts, Turns}
-use Rattle.filter.proofs.Running.{serves}
 use Rattle.poolrun.specs.Machine.{pools}
 use Rattle.poolrun.proofs.run.Given as goal
 
--- BY HAND [[["loop", "loop-left"], ["source", "sink", "pool", "front", "sets", "store", "input", "output", "t", "left"]], [true, true, true, true, true, true, true, true, true, true]]
-abbrev invariant-loop : tie.invariant-loop
-invariant-loop pool₀ front₀ sets₀ store₀ input₀ output₀ t₀ left₀ pool front sets store input output t left =
-    (t.held ≤ length input) × (length input ≡ length input₀) × (length output ≡ length output₀)
-    × Going (Starts (pool_in (pool_memory pool₀ (memory front₀ sets₀ store₀)))) (Turns pools) t.more left (standing (pool_in (pool_memory pool (memory front sets store))) t input output)
+abbrev pub invariant-loop-left : goal.invariant-loop-left
+invariant-loop-left g l =
+    (l.t.held ≤ length l.input) × (length l.input ≡ length l.initial.input) × (length l.output ≡ length l.initial.output)
+    × Going (Starts (pool_in (pool_memory l.initial.pool (memory l.initial.front l.initial.sets l.initial.store)))) (Turns pools) l.t.more l.left (standing (pool_in (pool_memory l.pool (memory l.front l.sets l.store))) l.t l.input l.output)
 
--- BY HAND [[["loop", "loop-left"], ["source", "sink", "pool", "front", "sets", "store", "input", "output", "t", "left"]], [true, true, true, true, true, true, true, true, true, true]]
-abbrev decreases-loop : tie.decreases-loop
-decreases-loop pool₀ front₀ sets₀ store₀ input₀ output₀ t₀ left₀ pool front sets store input output t left = left
+abbrev pub decreases-loop-left : goal.decreases-loop-left
+decreases-loop-left g l = l.left
