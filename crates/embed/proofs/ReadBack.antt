@@ -21,10 +21,7 @@ use Rattle.paper.specs.declared.Mark.TheVariants.{Unmarked}
 use Rattle.paper.specs.declared.Picture.{Picture}
 use Rattle.paper.specs.declared.Limits.{Limits}
 use Rattle.paper.specs.declared.Prev.{Prev}
-use Rattle.paper.specs.declared.Prev.TheVariants as Prev
 use Rattle.paper.specs.declared.Now.{Now}
-use Rattle.paper.specs.declared.Now.TheVariants as Now
-use Rattle.derivation.specs.declared.ref_lists.Refs.{Refs}
 use Rattle.derivation.specs.Lists.{refs_in}
 use Rattle.derivation.proofs.Runs.{refs_are, table_is}
 use Rattle.wire.proofs.Flat.{length_flat}

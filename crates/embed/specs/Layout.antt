@@ -9,10 +9,8 @@ use Rattle.paper.specs.State as P
 use Rattle.paper.specs.declared.Picture.{Picture}
 use Rattle.paper.specs.declared.Limits.{Limits}
 use Rattle.paper.specs.declared.Prev.{Prev}
-use Rattle.paper.specs.declared.Prev.TheVariants as Prev
 use Rattle.paper.specs.declared.Current.{Current}
 use Rattle.paper.specs.declared.Now.{Now}
-use Rattle.paper.specs.declared.Now.TheVariants as Now
 use Rattle.store.specs.StoreWords.{picture_words}
 use Rattle.session.specs.View.{Memory, memory}
 use Rattle.session.specs.Laid.{front_words_of}

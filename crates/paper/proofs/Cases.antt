@@ -10,9 +10,7 @@ use Rattle.paper.specs.declared.Mark.TheVariants.{Unmarked, ShortTerm}
 use Rattle.paper.specs.declared.Picture.{Picture}
 use Rattle.paper.specs.declared.Wish.{Wish}
 use Rattle.paper.specs.declared.Prev.{Prev}
-use Rattle.paper.specs.declared.Prev.TheVariants as Prev
 use Rattle.paper.specs.declared.Now.{Now}
-use Rattle.paper.specs.declared.Now.TheVariants as Now
 use Rattle.paper.specs.Numbers.{a_serial, a_surface, serial_nos}
 use Rattle.paper.specs.State.{Session, Refs, no_refs}
 use Rattle.paper.specs.Replies.{Reply}

@@ -1,7 +1,7 @@
 -- In some exchanges with an accepted configure there is a last one, and since then a valid picture that was finished
 -- last, or none: what Item 12 speaks of in words can always be found.
 use Prim.Native.Nat.{ℕ, ◌%◌, ◌^◌}
-use mathlib.Core.Path.{◌≡◌, refl, sym, ap, ◌∙◌, subst}
+use mathlib.Core.Path.{◌≡◌, refl, sym, ap, ◌∙◌}
 use mathlib.Core.List.{List, [], ◌∷◌, ◌++◌, append_assoc}
 use mathlib.Core.Option.{Option, none, some}
 use mathlib.Core.Bool.{Bool, true, false, cond, ◌&&◌}

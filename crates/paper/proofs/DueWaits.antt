@@ -2,7 +2,7 @@
 -- are pictures that wait. Assumes nothing.
 use Prim.Native.Nat.{ℕ, zero, suc, zero-le}
 use mathlib.Core.Path.{◌≡◌, refl, sym, ap, ◌∙◌}
-use mathlib.Core.List.{List, [], ◌∷◌, ◌++◌, map}
+use mathlib.Core.List.{List, [], ◌∷◌}
 use mathlib.Core.Bool.{Bool, true, false, cond, not, ◌&&◌, ◌||◌}
 use native.Mathlib.Omega.{arith}
 use lib.Dec.{eqb, ltb, leb}
@@ -16,8 +16,8 @@ use Rattle.paper.specs.declared.Current.{Current}
 use Rattle.paper.specs.declared.Now.TheVariants.{Is}
 use Rattle.paper.specs.Words.{keep, any_b}
 use Rattle.paper.specs.State.{Session}
-use Rattle.paper.specs.Output.{Moved, still, and_then, turns, lowest, hand_found, hand_out, emptied, due, due_late, due_full, hand_while}
-use Rattle.paper.specs.Calls.{raised, stored, finished, drained, drained_now}
+use Rattle.paper.specs.Output.{Moved, still, and_then, turns, lowest, hand_found, hand_out, emptied, due_late, due_full, hand_while}
+use Rattle.paper.specs.Calls.{finished, drained, drained_now}
 use Rattle.paper.specs.DueWaits.{one_waits, due_over, hand_the, as_found, turn_due, hand_due, with_stored, Item9}
 use Rattle.paper.proofs.Bools.{left, or_right, split, not_both, any_mono}
 use Rattle.paper.proofs.Quiet.{waitings, lowest_none}

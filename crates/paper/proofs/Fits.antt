@@ -14,7 +14,6 @@ use Rattle.paper.specs.declared.Limits.{Limits}
 use Rattle.paper.specs.declared.Picture.{Picture}
 use Rattle.paper.specs.declared.Current.{Current}
 use Rattle.paper.specs.declared.Now.{Now}
-use Rattle.paper.specs.declared.Now.TheVariants as Now
 use Rattle.paper.specs.Words.{keep, all_b, table}
 use Rattle.paper.specs.Numbers.{u8, bit, bytes32, missing, serial_nos}
 use Rattle.paper.specs.Kinds.{reply_to, malformed_reply}

@@ -12,7 +12,7 @@ use Rattle.paper.specs.Numbers.{u8, u16}
 use Rattle.paper.specs.Kinds.{configure_kind, begin_kind, k_place, number_place}
 use Rattle.paper.specs.Records.{kind_of}
 use Rattle.paper.specs.Ledger.{Exchange}
-use Rattle.paper.specs.OneLine.{accepts, valid_in, Notes, empty, previous_after, finishes, gives_up, moves, noted, notes, LastConfigure, Finished, LastFinished, LastIs}
+use Rattle.paper.specs.OneLine.{accepts, valid_in, Notes, empty, previous_after, finishes, gives_up, moves, noted, notes, LastConfigure, Finished, LastIs}
 use Rattle.paper.proofs.Bools.{left, right, split, not_both, by_case}
 
 -- ---- tests that failed

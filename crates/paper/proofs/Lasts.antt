@@ -15,7 +15,6 @@ use Rattle.paper.specs.State.{Session, is_marked, modulus}
 use Rattle.paper.specs.Sets.{Wishes, used_by, unused_by, is_in, marked, in_order, mark_all, mark_only, long_set, long_marked, sets_of, marks_of, unmarked_if}
 use Rattle.paper.specs.Output.{Moved, still, turns, lowest, is_it, leave, stay, quieted, hand_found, hand_out, cleared, emptied, in_use, removed, hand_while, due, before_decoding}
 use Rattle.paper.specs.Begin.{wishes, starts_over, marked_store}
-use Rattle.paper.specs.declared.Mark.TheVariants as Mark
 use Rattle.paper.specs.declared.Found.TheVariants.{Nothing, The}
 use Rattle.paper.proofs.Bools.{by_case}
 use Rattle.paper.proofs.Every.{All, all_keep}

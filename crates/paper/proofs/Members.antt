@@ -22,7 +22,6 @@ use Rattle.paper.specs.Begin.{wishes, sets, unmarked_store, marked_store, starts
 use Rattle.paper.specs.declared.Line.{Line}
 use Rattle.paper.specs.Ledger.{names}
 use Rattle.paper.specs.Statement.{line}
-use Rattle.paper.specs.declared.Mark.TheVariants as Mark
 use Rattle.paper.specs.declared.Found.TheVariants.{Nothing, The}
 use Rattle.paper.proofs.Bools as B
 use Rattle.paper.proofs.Bools.{both, left, right, split, not_both, or_left, or_right, by_case}

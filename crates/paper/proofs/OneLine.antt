@@ -14,9 +14,7 @@ use mir.Facts.{to_z-of_z, Fits-of_z}
 use borrow.Author.Tests.{ne_eqb, ltb-true}
 use Rattle.paper.specs.declared.Limits.{Limits}
 use Rattle.paper.specs.declared.Prev.{Prev}
-use Rattle.paper.specs.declared.Prev.TheVariants as Prev
 use Rattle.paper.specs.declared.Now.{Now}
-use Rattle.paper.specs.declared.Now.TheVariants as Now
 use Rattle.paper.specs.declared.Reading.{Reading}
 use Rattle.paper.specs.Numbers.{u8, u16, bytes32, bit}
 use Rattle.paper.specs.Kinds.{begin_kind, nal_place, number_place, flags_place, reply_to}
@@ -26,7 +24,7 @@ use Rattle.paper.specs.Ranges.{configure_ranges}
 use Rattle.paper.specs.Nal.{irap}
 use Rattle.paper.specs.Poc.{in32, msb_of}
 use Rattle.paper.specs.Nearest.{TheOnly, Multiple}
-use Rattle.paper.specs.Begin.{no_rasl_pics, starts_over, msb, poc, within, begun_current, room_made}
+use Rattle.paper.specs.Begin.{starts_over, msb, poc, within, begun_current, room_made}
 use Rattle.paper.specs.Output.{Tail}
 use Rattle.paper.specs.Calls.{prev_after}
 use Rattle.paper.specs.Replies.{Begun, Reply, begun_bytes, bytes_of}

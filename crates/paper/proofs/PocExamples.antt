@@ -1,7 +1,7 @@
 -- Item 12 says something: a recording and its POCs by the rule, worked out by hand, and short exchanges, each under the
 -- sentence that it breaks.
 use Prim.Native.Nat.{ℕ}
-use mathlib.Core.Path.{◌≡◌, refl, sym, ap}
+use mathlib.Core.Path.{◌≡◌, refl, ap}
 use mathlib.Core.List.{List, [], ◌∷◌, ◌++◌}
 use mathlib.Core.Bool.{Bool, true, false, not, ◌&&◌, ◌||◌}
 use native.Mathlib.Omega.{arith}
@@ -13,7 +13,7 @@ use Rattle.paper.specs.Kinds.{configure_kind, begin_kind, reply_to}
 use Rattle.paper.specs.Reading.{opening}
 use Rattle.paper.specs.State.{Session}
 use Rattle.paper.specs.Replies.{framed}
-use Rattle.paper.specs.Ledger.{Exchange, none}
+use Rattle.paper.specs.Ledger.{Exchange}
 use Rattle.paper.specs.Poc.{eq_z}
 use Rattle.paper.specs.Nearest.{Multiple}
 use Rattle.paper.specs.OneLine.{accepts, poc_in, Notes, empty, modulus_in, previous_after, noted, notes, LastConfigure, Finished, LastFinished, Since, InWords, Covered, OneLine, poc_after, Computed, MsbMultiple, Item12}

@@ -29,7 +29,6 @@ use Rattle.paper.specs.Step.{Decided, refused, accepted, begun_of, held_by, deci
 use Rattle.paper.specs.declared.Line.{Line}
 use Rattle.paper.specs.Ledger.{Ledger, upon_all, events, none, names, clearing, lies, landed, tell}
 use Rattle.paper.specs.Statement.{line, current_line, ledger_of}
-use Rattle.paper.specs.declared.Now.TheVariants as Now
 use Rattle.paper.specs.Begin as W
 use Rattle.paper.proofs.Bools as B
 use Rattle.paper.proofs.Bools.{both, split, not_both, or_left, or_right, by_case}

@@ -2,7 +2,6 @@
 use Rattle.std.specs.Prelude.{◌+◌, List, Bool, false, cond, not, ◌&&◌, ℤ}
 use Rattle.paper.specs.declared.Picture.{Picture}
 use Rattle.paper.specs.declared.Prev.{Prev}
-use Rattle.paper.specs.declared.Prev.TheVariants as Prev
 use Rattle.paper.specs.declared.Current.{Current}
 use Rattle.paper.specs.declared.Now.TheVariants as Now
 use Rattle.paper.specs.Numbers.{bit, a_serial}

@@ -4,10 +4,8 @@ use Rattle.paper.specs.declared.Mark.TheVariants as Mark
 use Rattle.paper.specs.declared.Picture.{Picture}
 use Rattle.paper.specs.declared.Limits.{Limits}
 use Rattle.paper.specs.declared.Prev.{Prev}
-use Rattle.paper.specs.declared.Prev.TheVariants as Prev
 use Rattle.paper.specs.declared.Current.{Current}
 use Rattle.paper.specs.declared.Now.{Now}
-use Rattle.paper.specs.declared.Now.TheVariants as Now
 use Rattle.paper.specs.State.{Session, no_refs, on_now, taken16, count_limit}
 use Rattle.paper.specs.Output.{Tail, Moved, quiet, joined, still, and_then, cleared, emptied, hand_while, due}
 

@@ -2,7 +2,6 @@
 use Rattle.std.specs.Prelude.{ℕ, ◌*◌, List, [], ◌∷◌, ◌++◌, map, Bool, true, cond, not, ◌&&◌, eqb, ℤ, pos, ◌+ℤ◌, ◌-ℤ◌}
 use Rattle.paper.specs.declared.Serial.{Serial}
 use Rattle.paper.specs.declared.Mark.{Mark}
-use Rattle.paper.specs.declared.Mark.TheVariants as Mark
 use Rattle.paper.specs.declared.Picture.{Picture}
 use Rattle.paper.specs.declared.ShortEntry.{ShortEntry}
 use Rattle.paper.specs.declared.LongEntry.{LongEntry}

@@ -6,10 +6,8 @@ use Rattle.paper.specs.declared.Mark.TheVariants.{Unmarked, ShortTerm, LongTerm}
 use Rattle.paper.specs.declared.Picture.{Picture}
 use Rattle.paper.specs.declared.Limits.{Limits}
 use Rattle.paper.specs.declared.Prev.{Prev}
-use Rattle.paper.specs.declared.Prev.TheVariants as Prev
 use Rattle.paper.specs.declared.Current.{Current}
 use Rattle.paper.specs.declared.Now.{Now}
-use Rattle.paper.specs.declared.Now.TheVariants as Now
 use Rattle.paper.specs.Numbers.{capacity_limit}
 
 -- the sets of the current picture that its lists draw on: StCurrBefore, StCurrAfter, LtCurr

@@ -27,7 +27,7 @@ use Rattle.session.proofs.Entries.{all_both}
 use Rattle.pool.specs.Pool.{Pool, can_make, made, is_free}
 use Rattle.pool.specs.Calls.{shown_on}
 use Rattle.pool.specs.History.{Call, Heard, BytesIn, after, heard_from, after_all, exchanges_in, carried_all, shown_all, returns_in, surfaces_in}
-use Rattle.pool.specs.Statement.{GivenOn, names, AllNamed, between, GivenAgain, NeverWhileHeld}
+use Rattle.pool.specs.Statement.{GivenOn, names, AllNamed, GivenAgain, NeverWhileHeld}
 use Rattle.pool.proofs.Reached.{Reached, AlwaysReached}
 use Rattle.pool.proofs.Parts.{heard_one, calls_in, after_append, heard_append, carried_append, exchanges_append, returns_append, shown_append, Parted, parted}
 use Rattle.pool.proofs.Begun.{Began, begun_append, begun_given, lent, began}

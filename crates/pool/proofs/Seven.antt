@@ -9,7 +9,6 @@ use lib.Dec.{ltb, eqb}
 use borrow.Author.Tests.{ltb-true, not-true}
 use Rattle.paper.specs.declared.Current.{Current}
 use Rattle.paper.specs.declared.Now.{Now}
-use Rattle.paper.specs.declared.Now.TheVariants as Now
 use Rattle.paper.specs.Words.{Test, ◌gives◌, first, any_b}
 use Rattle.paper.specs.Numbers.{u32, a_surface}
 use Rattle.paper.specs.Kinds.{configure_kind, begin_kind, lists_kind, finish_kind, drain_kind, discard_kind, end_kind, abandon_kind, reply_to, surface_place}

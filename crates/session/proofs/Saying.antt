@@ -11,10 +11,8 @@ use Rattle.paper.specs.Kinds.{configure_kind, finish_kind, drain_kind, discard_k
 use Rattle.paper.specs.declared.Picture.{Picture}
 use Rattle.paper.specs.declared.Limits.{Limits}
 use Rattle.paper.specs.declared.Prev.{Prev}
-use Rattle.paper.specs.declared.Prev.TheVariants as Prev
 use Rattle.paper.specs.declared.Current.{Current}
 use Rattle.paper.specs.declared.Now.{Now}
-use Rattle.paper.specs.declared.Now.TheVariants as Now
 use Rattle.paper.specs.State.{is_current, on_now, taken16}
 use Rattle.paper.specs.State as P
 use Rattle.paper.specs.Ranges.{configure_ranges}

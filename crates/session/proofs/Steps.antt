@@ -10,7 +10,6 @@ use borrow.Author.Tests.{le-ltb, eqb-true, leb-true}
 use Rattle.wire.specs.Bytes.{over}
 use Rattle.paper.specs.Kinds.{configure_kind, begin_kind, lists_kind, finish_kind, abandon_kind, reply_to, malformed_reply}
 use Rattle.paper.specs.declared.Now.{Now}
-use Rattle.paper.specs.declared.Now.TheVariants as Now
 use Rattle.paper.specs.Records.{Slice, kind_of, length_of, body_ok, well_formed, limits_of, fields_of, slice_of}
 use Rattle.paper.specs.State.{on_now, all_refs}
 use Rattle.paper.specs.State as P

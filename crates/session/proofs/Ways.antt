@@ -8,7 +8,6 @@ use borrow.Author.Tests.{not-true, not-false}
 use Rattle.paper.specs.declared.Current.{Current}
 use Rattle.paper.specs.declared.Limits.{Limits}
 use Rattle.paper.specs.declared.Now.{Now}
-use Rattle.paper.specs.declared.Now.TheVariants as Now
 use Rattle.paper.specs.Words.{Test, ◌gives◌, first, any_b}
 use Rattle.paper.specs.Numbers.{missing}
 use Rattle.paper.specs.Kinds.{configure_kind, begin_kind, finish_kind, drain_kind, discard_kind, end_kind, abandon_kind, reply_to}

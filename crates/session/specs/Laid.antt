@@ -9,7 +9,6 @@ use Rattle.paper.specs.State.{is_current, on_now}
 use Rattle.paper.specs.State as P
 use Rattle.paper.specs.declared.Limits.{Limits}
 use Rattle.paper.specs.declared.Prev.{Prev}
-use Rattle.paper.specs.declared.Prev.TheVariants as Prev
 use Rattle.paper.specs.declared.Current.{Current}
 use Rattle.paper.specs.declared.Now.{Now}
 use Rattle.derivation.specs.declared.ref_lists.Refs.{Refs}

@@ -7,10 +7,8 @@ use Rattle.paper.specs.Numbers.{a_serial, a_surface}
 use Rattle.paper.specs.State as P
 use Rattle.paper.specs.declared.Limits.{Limits}
 use Rattle.paper.specs.declared.Prev.{Prev}
-use Rattle.paper.specs.declared.Prev.TheVariants as Prev
 use Rattle.paper.specs.declared.Current.{Current}
 use Rattle.paper.specs.declared.Now.{Now}
-use Rattle.paper.specs.declared.Now.TheVariants as Now
 use Rattle.derivation.specs.declared.ref_lists.Refs.{Refs}
 use Rattle.derivation.specs.Lists.{refs_in}
 use Rattle.store.specs.StoreWords.{word, flag_of, stored}

@@ -15,7 +15,6 @@ use Rattle.paper.specs.Poc.{eq_z}
 use Rattle.paper.specs.Output.{is_it}
 use Rattle.paper.specs.declared.Picture.{Picture}
 use Rattle.paper.specs.declared.Found.{Found}
-use Rattle.paper.specs.declared.Found.TheVariants as Found
 use Rattle.paper.specs.declared.Mark.TheVariants.{Unmarked}
 use Rattle.paper.proofs.Bools.{both, split, by_case, not_both}
 use Rattle.paper.proofs.Whole.{lt_z_true, lt_z_false, lt_z_apart, eq_z_same}

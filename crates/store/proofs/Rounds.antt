@@ -23,7 +23,6 @@ use Rattle.paper.specs.declared.Surface.{Surface}
 use Rattle.paper.specs.declared.Picture.{Picture}
 use Rattle.paper.specs.declared.Limits.{Limits}
 use Rattle.paper.specs.declared.Found.{Found}
-use Rattle.paper.specs.declared.Found.TheVariants as Found
 use Rattle.store.specs.Places.{place_at, front}
 use Rattle.store.specs.Tails.{HoldsHanded, HoldsThrown, HoldsReleased, GoodReleased, HoldsMoved, HoldsParts, handed_in, released_in, moved_in, started_in, waits, Gathers}
 use Rattle.store.specs.Walks.{late_by}

@@ -17,7 +17,6 @@ use Rattle.paper.specs.Words.{keep, any_b, table}
 use Rattle.paper.specs.Output.{lowest, below}
 use Rattle.paper.specs.declared.Picture.{Picture}
 use Rattle.paper.specs.declared.Found.{Found}
-use Rattle.paper.specs.declared.Found.TheVariants as Found
 use Rattle.store.specs.Places.{place_at, front}
 use Rattle.store.specs.Tails.{waits}
 use Rattle.store.specs.Walks.{late_by}

@@ -7,7 +7,6 @@ use Rattle.paper.specs.Poc.{eq_z}
 use Rattle.paper.specs.Output.{is_it}
 use Rattle.paper.specs.declared.Picture.{Picture}
 use Rattle.paper.specs.declared.Found.{Found}
-use Rattle.paper.specs.declared.Found.TheVariants as Found
 use Rattle.store.specs.Places.{place_at}
 use Rattle.store.specs.Tails.{waits}
 use Rattle.store.specs.declared.bumping.Lowest.{Lowest}

@@ -15,7 +15,6 @@ use Rattle.paper.specs.declared.Found.TheVariants.{Nothing, The}
 use Rattle.store.specs.declared.pictures.Sought.{Sought}
 use Rattle.store.specs.declared.pictures.Sought.TheVariants.{AnyAt, LowAt, ShortAt, HeldBy}
 use Rattle.store.specs.declared.pictures.Change.{Change}
-use Rattle.store.specs.declared.pictures.Change.TheVariants as Change
 
 -- "any mark and equal POC", "or equal POC mod M", "short-term .. of equal POC"
 abbrev pub any_at : ℤ → Picture → Bool

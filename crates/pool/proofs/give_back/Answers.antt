@@ -1,7 +1,6 @@
 -- The number says whether a return was pending, and the words are the pool without it.
 use mathlib.Core.Bool.{true, false}
 use Rattle.pool.proofs.MarkLaws.{gives_back}
-
 use Rattle.pool.proofs.give_back.Goals as goal
 
 pub returns-then-take_pending : goal.returns-then-take_pending

@@ -1,9 +1,7 @@
 -- A count that is refused leaves every word; else the three words are written anew and the session is fresh.
 use Rattle.session.specs.View.{memory}
 use Rattle.pool.specs.Memory.{pool_memory}
-use Rattle.pool.proofs.MarkLaws.{makes, makes_none}
-use borrow.Author.Rules.{rules}
-
+use Rattle.pool.proofs.MarkLaws.{makes}
 use Rattle.pool.proofs.make.Goals as goal
 
 pub returns : goal.returns

@@ -4,11 +4,9 @@ use Prim.Native.Nat.{ℕ}
 use mathlib.Core.Path.{sym, ap, ◌∙◌}
 use mathlib.Core.Bool.{Bool, ◌&&◌}
 use lib.Dec.{eqb}
-use borrow.Author.Rules.{rules}
 use Rattle.paper.specs.Kinds.{begin_kind}
 use Rattle.session.specs.Target.{is_begin}
 use Rattle.pool.proofs.StepLaws.{begin_is}
-
 use Rattle.pool.proofs.none_left.Goals as goal
 
 pub returns-then-begins-x : goal.returns-then-begins-x

@@ -4,7 +4,6 @@ use mathlib.Core.Path.{◌≡◌, sym, ◌∙◌}
 use mathlib.Core.Bool.{true, false, cond, ◌&&◌}
 use native.Mathlib.Omega.{arith}
 use lib.Dec.{eqb}
-use borrow.Author.Rules.{rules}
 use Rattle.paper.specs.Kinds.{begin_kind}
 use Rattle.paper.specs.Records.{kind_of}
 use Rattle.session.specs.View.{memory}
@@ -12,7 +11,6 @@ use Rattle.session.specs.Target.{is_begin}
 use Rattle.pool.specs.Pool.{no_surface, lowest_free}
 use Rattle.pool.specs.Memory.{pool_memory, pool_in}
 use Rattle.pool.proofs.StepLaws.{reply_fits, reply_taken, refuses_left, refuses, accepts}
-
 use Rattle.pool.proofs.step.Goals as goal
 
 pub slice_bounds-account-end : goal.slice_bounds-account-end

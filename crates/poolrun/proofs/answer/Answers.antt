@@ -1,17 +1,11 @@
 -- Each turn takes one whole call, and its answer goes behind the others.
-use Prim.Native.Nat.{◌+◌, ◌-◌, ◌≤◌}
-use mathlib.Core.Path.{◌≡◌, refl, sym, ◌∙◌}
+use Prim.Native.Nat.{◌+◌, ◌≤◌}
+use mathlib.Core.Path.{refl, ◌∙◌}
 use native.Mathlib.Omega.{arith}
-use borrow.Author.Rules.{rules}
 use lib.ListN.{length}
-use Rattle.session.specs.View.{memory}
-use Rattle.pool.specs.Memory.{pool_memory, pool_in}
-use Rattle.filter.specs.Answers.{Answers}
 use Rattle.filter.proofs.Answering.{nothing_yet, one_answered}
 use Rattle.format.proofs.Fitting.{size_at, size_end}
 use Rattle.poolrun.specs.Machine.{pools}
-use Rattle.poolrun.proofs.Answering.{call_long}
-
 use Rattle.poolrun.proofs.answer.Goals as goal
 
 pub loop-made-init : goal.loop-made-init
@@ -22,5 +16,4 @@ loop-made-preserved c =
     let ends : c.loop-made.taken + c.size-n.result ≤ length c.args.bytes.now =
     size_end c.args.bytes.now c.loop-made.taken c.size-n.ensures c.loop-made.invariant.0
     in
-       
     (ends, omega (arith, c.answer_to-made.ensures.fits, c.answer_to-made.auto.out), c.answer_to-made.auto.out ∙ c.loop-made.invariant.2, one_answered pools c.loop-made.taken c.loop-made.made c.size-n.result _ (omega (arith, c.if-n-eq0.false)) (size_at _ c.loop-made.taken c.size-n.ensures) c.loop-made.invariant.3 c.answer_to-made.ensures)

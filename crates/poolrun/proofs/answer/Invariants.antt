@@ -1,15 +1,10 @@
-use Prim.Native.Nat.{◌+◌, ◌-◌, ◌≤◌}
-use mathlib.Core.Path.{◌≡◌, refl, sym, ◌∙◌}
-use native.Mathlib.Omega.{arith}
-use borrow.Author.Rules.{rules}
+use Prim.Native.Nat.{◌-◌, ◌≤◌}
+use mathlib.Core.Path.{◌≡◌}
 use lib.ListN.{length}
 use Rattle.session.specs.View.{memory}
 use Rattle.pool.specs.Memory.{pool_memory, pool_in}
 use Rattle.filter.specs.Answers.{Answers}
-use Rattle.filter.proofs.Answering.{nothing_yet, one_answered}
-use Rattle.format.proofs.Fitting.{size_at, size_end}
 use Rattle.poolrun.specs.Machine.{pools}
-use Rattle.poolrun.proofs.Answering.{call_long}
 use Rattle.poolrun.proofs.answer.Given as goal
 
 abbrev pub invariant-loop-made : goal.invariant-loop-made

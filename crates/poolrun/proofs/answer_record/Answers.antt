@@ -3,7 +3,6 @@ use Prim.Native.Nat.{◌≤◌}
 use native.Mathlib.Omega.{arith}
 use borrow.Author.Rules.{rules}
 use Rattle.poolrun.proofs.Answering.{answer_fits, recorded}
-
 use Rattle.poolrun.proofs.answer_record.Goals as goal
 
 pub put_head-requires : goal.put_head-requires

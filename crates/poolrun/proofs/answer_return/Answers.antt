@@ -1,10 +1,8 @@
 -- The head alone is the answer.
 use Prim.Native.Nat.{ℕ}
 use mathlib.Core.Path.{subst}
-use borrow.Author.Rules.{rules}
 use Rattle.pool.specs.Said.{GivesBack}
 use Rattle.poolrun.proofs.Answering.{returned}
-
 use Rattle.poolrun.proofs.answer_return.Goals as goal
 
 pub returns : goal.returns

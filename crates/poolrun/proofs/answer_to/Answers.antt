@@ -1,9 +1,5 @@
 -- The kind of the call decides which of the two answers it.
-use mathlib.Core.Path.{sym, ◌∙◌}
-use borrow.Author.Rules.{rules}
-use borrow.Author.Tests.{eq-eqb, ne_eqb}
 use Rattle.session.specs.View.{memory}
-
 use Rattle.poolrun.proofs.answer_to.Goals as goal
 
 pub returns-then-u16_at-eq-RETURN : goal.returns-then-u16_at-eq-RETURN

@@ -3,9 +3,7 @@ use mathlib.Core.Path.{◌≡◌}
 use native.Mathlib.Omega.{arith}
 use borrow.Author.Rules.{rules}
 use lib.ListN.{length}
-use lib.Seq.{length-take-le}
 use Rattle.filter.proofs.Turning.{turned}
-
 use Rattle.poolrun.proofs.turn.Goals as goal
 
 pub returns : goal.returns

@@ -1,13 +1,9 @@
-use Prim.Native.Nat.{◌+◌, ◌-◌, ◌≤◌}
-use mathlib.Core.Path.{◌≡◌, refl, sym, ◌∙◌}
-use native.Mathlib.Omega.{arith}
-use borrow.Author.Rules.{rules}
+use Prim.Native.Nat.{◌-◌, ◌≤◌}
+use mathlib.Core.Path.{◌≡◌}
 use lib.ListN.{length}
 use Rattle.session.specs.View.{memory, session_in}
 use Rattle.filter.specs.Answers.{Answers}
-use Rattle.filter.proofs.Answering.{nothing_yet, one_answered}
 use Rattle.replay.specs.Machine.{sessions}
-use Rattle.format.proofs.Fitting.{size_at, size_end}
 use Rattle.replay.proofs.answer.Given as goal
 
 abbrev pub invariant-loop-made : goal.invariant-loop-made

@@ -1,7 +1,5 @@
 -- The reply goes into the part of the buffer that is free.
 use Rattle.replay.proofs.Answering.{added}
-use borrow.Author.Rules.{rules}
-
 use Rattle.replay.proofs.reply_to.Goals as goal
 
 pub returns : goal.returns

@@ -1,11 +1,9 @@
 -- A buffer that is too small is left as it was, and else the head alone is the framed refusal.
-use Prim.Native.Nat.{◌<◌, ◌≤◌}
+use Prim.Native.Nat.{◌≤◌}
 use mathlib.Core.Path.{refl}
 use native.Mathlib.Omega.{arith}
 use lib.ListN.{length}
 use Rattle.session.proofs.Bytes.{refused_says}
-use borrow.Author.Rules.{rules}
-
 use Rattle.session.proofs.decline.Goals as goal
 
 pub returns : goal.returns

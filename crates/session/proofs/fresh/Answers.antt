@@ -1,8 +1,6 @@
 -- The words beside the store are those of a session that has heard nothing, and an empty store holds nothing.
 use mathlib.Core.Path.{refl}
 use Rattle.derivation.specs.Lists.{refs_in}
-use borrow.Author.Rules.{rules}
-
 use Rattle.session.proofs.fresh.Goals as goal
 
 pub returns : goal.returns

@@ -12,7 +12,6 @@ use Rattle.session.proofs.Targets.{FitTarget}
 use Rattle.session.proofs.Saying.{does_refuse}
 use Rattle.session.proofs.Steps.{formed, malformed, lists_do, goes_not, goes, goes_begin, no_room}
 use borrow.Author.Rules.{rules}
-
 use Rattle.session.proofs.step_at.Goals as goal
 
 -- what the kit knows of a target that is passed: a chosen surface is a u32

@@ -2,11 +2,8 @@
 use mathlib.Core.Path.{◌≡◌, refl}
 use Prim.Native.Nat.{◌+◌, suc}
 use native.Mathlib.Numerals.{add-one}
-use lib.ListN.{length-set}
 use native.Mathlib.Omega.{arith}
-use borrow.Author.Rules.{rules}
 use Rattle.paper.specs.Numbers.{bytes32}
-
 use Rattle.wire.proofs.put_u32.Goals as goal
 
 pub returns : goal.returns

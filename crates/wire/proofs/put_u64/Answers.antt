@@ -4,8 +4,6 @@ use mathlib.Core.Path.{sym}
 use native.Mathlib.Omega.{arith}
 use Rattle.paper.specs.Numbers.{bytes32}
 use Rattle.wire.proofs.Laws.{runs}
-use borrow.Author.Rules.{rules}
-
 use Rattle.wire.proofs.put_u64.Goals as goal
 
 pub returns : goal.returns

@@ -1,18 +1,7 @@
-use mathlib.Core.Path.{◌≡◌, refl, sym, ap, ◌∙◌}
-use mathlib.Core.Bool.{Bool, true, false}
-use mathlib.Core.List.{List}
-use Prim.Native.Nat.{ℕ, ◌+◌, ◌-◌, ◌<◌, ◌≤◌, min}
-use native.Mathlib.Omega.{arith}
-use borrow.Author.Rules.{rules}
-use borrow.Author.Count.{below_more}
-use borrow.Author.Tests.{ltb-true, ltb-false}
-use lib.Dec.{ltb}
-use lib.ListN.{length, get_or, set, length-set, get_or-eq_default}
-use lib.Seq.{get_or-set_same, get_or-set_other}
-use Rattle.paper.specs.Numbers.{a_serial}
-use Rattle.paper.specs.declared.Serial.{Serial}
-use Rattle.derivation.specs.Lists.{blank_serial, serial_at, member_at}
-use Rattle.derivation.proofs.Runs.{table_same}
+use mathlib.Core.Path.{◌≡◌}
+use Prim.Native.Nat.{ℕ, ◌-◌, ◌<◌, ◌≤◌}
+use lib.ListN.{length, get_or}
+use Rattle.derivation.specs.Lists.{serial_at, member_at}
 use Rattle.derivation.proofs.members.put_members.Given as goal
 
 abbrev pub invariant-loop-i : goal.invariant-loop-i

@@ -1,10 +1,8 @@
 -- `derivation::nal::is_irap`: the class answers it, by a computed test over all bytes.
 use mathlib.Core.Path.{◌∙◌}
-use borrow.Author.Rules.{rules}
 use Rattle.paper.specs.Nal.{irap}
 use Rattle.derivation.specs.Classes.{class_of, irap_in}
 use Rattle.derivation.proofs.ByClass.{by_class}
-
 use Rattle.derivation.proofs.nal.is_irap.Goals as goal
 
 pub returns : goal.returns

@@ -1,10 +1,8 @@
 -- `derivation::nal::is_taken`: the class answers it, by a computed test over all bytes.
 use mathlib.Core.Path.{◌∙◌}
-use borrow.Author.Rules.{rules}
 use Rattle.paper.specs.Nal.{taken}
 use Rattle.derivation.specs.Classes.{class_of, taken_in}
 use Rattle.derivation.proofs.ByClass.{by_class}
-
 use Rattle.derivation.proofs.nal.is_taken.Goals as goal
 
 pub returns : goal.returns

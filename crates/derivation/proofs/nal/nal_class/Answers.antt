@@ -3,7 +3,6 @@ use native.Mathlib.Omega.{arith}
 use Rattle.derivation.specs.Classes.{class_of}
 use Rattle.derivation.specs.declared.nal.NalClass.TheVariants.{Idr, Bla, Radl, Rasl, Other, Refused}
 use Rattle.derivation.proofs.ByClass.{class_of_lem, class_says}
-
 use Rattle.derivation.proofs.nal.nal_class.Goals as goal
 
 pub returns-in-21 : goal.returns-in-21

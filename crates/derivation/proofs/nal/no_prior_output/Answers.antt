@@ -1,10 +1,8 @@
 -- `derivation::nal::no_prior_output`: the class says whether a type is IRAP and whether it is CRA.
 use mathlib.Core.Path.{◌∙◌}
-use borrow.Author.Rules.{rules}
 use Rattle.paper.specs.Nal.{irap, cra}
 use Rattle.derivation.specs.Classes.{class_of, irap_in, cra_in}
 use Rattle.derivation.proofs.ByClass.{by_class}
-
 use Rattle.derivation.proofs.nal.no_prior_output.Goals as goal
 
 pub returns : goal.returns

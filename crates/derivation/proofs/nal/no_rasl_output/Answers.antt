@@ -2,11 +2,9 @@
 use mathlib.Core.Path.{◌≡◌}
 use mathlib.Core.Bool.{Bool, true, false, ◌&&◌, ◌||◌}
 use Prim.Native.Nat.{ℕ, ◌<◌}
-use borrow.Author.Rules.{rules}
 use Rattle.paper.specs.Nal.{idr, bla, cra}
 use Rattle.derivation.specs.Classes.{class_of, no_rasl_in}
 use Rattle.wire.proofs.Below.{bytes_agree}
-
 use Rattle.derivation.proofs.nal.no_rasl_output.Goals as goal
 
 anew : (b : Bool) (t : ℕ) → t < 256 → no_rasl_in (class_of t) b ≡ (idr t || bla t || (cra t && b))

@@ -3,11 +3,9 @@ use mathlib.Core.Path.{◌≡◌, refl}
 use mathlib.Core.Bool.{Bool, true, false, not, ◌&&◌}
 use Prim.Native.Nat.{ℕ, ◌<◌}
 use lib.Dec.{eqb}
-use borrow.Author.Rules.{rules}
 use Rattle.paper.specs.Nal.{rasl, radl, sub_layer_non_reference}
 use Rattle.derivation.specs.Classes.{class_of, prev_in}
 use Rattle.wire.proofs.Below.{bytes_agree}
-
 use Rattle.derivation.proofs.nal.valid_prev.Goals as goal
 
 valid : (b : Bool) (t : ℕ) → t < 256 → (b && prev_in (class_of t) (sub_layer_non_reference t)) ≡ (b && not (rasl t) && not (radl t) && not (sub_layer_non_reference t))

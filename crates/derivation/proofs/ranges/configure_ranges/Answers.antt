@@ -1,7 +1,5 @@
 -- `derivation::ranges::configure_ranges`: the tests are the paper's, in its order.
 use Rattle.paper.specs.Ranges.{configure_ranges}
-use borrow.Author.Rules.{rules}
-
 use Rattle.derivation.proofs.ranges.configure_ranges.Goals as goal
 
 pub returns : goal.returns

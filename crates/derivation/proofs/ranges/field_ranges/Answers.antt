@@ -1,7 +1,5 @@
 -- `derivation::ranges::field_ranges`: the tests are those of `field_ranges`, in its order.
 use Rattle.derivation.specs.FieldRanges.{field_ranges}
-use borrow.Author.Rules.{rules}
-
 use Rattle.derivation.proofs.ranges.field_ranges.Goals as goal
 
 pub returns : goal.returns

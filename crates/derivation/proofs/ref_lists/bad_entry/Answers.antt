@@ -1,14 +1,11 @@
 -- `derivation::ref_lists::bad_entry`: an entry is too large among those left, until one is found.
-use mathlib.Core.Path.{◌≡◌, sym, ◌∙◌}
-use Prim.Native.Nat.{ℕ, ◌-◌, ◌<◌, ◌≤◌}
+use mathlib.Core.Path.{sym, ◌∙◌}
+use Prim.Native.Nat.{ℕ, ◌<◌}
 use native.Mathlib.Omega.{arith}
-use borrow.Author.Rules.{rules}
 use borrow.Author.Tests.{le-leb, lt-leb}
-use lib.ListN.{length, drop, get_or}
+use lib.ListN.{length, get_or}
 use lib.Dec.{leb}
-use Rattle.paper.specs.Words.{any_b}
 use Rattle.derivation.proofs.Runs.{any_hit, any_miss, any_end}
-
 use Rattle.derivation.proofs.ref_lists.bad_entry.Goals as goal
 
 pub returns-then-n-entries : goal.returns-then-n-entries

@@ -1,12 +1,8 @@
-use mathlib.Core.Path.{◌≡◌, sym, ◌∙◌}
-use Prim.Native.Nat.{ℕ, ◌-◌, ◌<◌, ◌≤◌}
-use native.Mathlib.Omega.{arith}
-use borrow.Author.Rules.{rules}
-use borrow.Author.Tests.{le-leb, lt-leb}
-use lib.ListN.{length, drop, get_or}
+use mathlib.Core.Path.{◌≡◌}
+use Prim.Native.Nat.{ℕ, ◌-◌, ◌≤◌}
+use lib.ListN.{length, drop}
 use lib.Dec.{leb}
 use Rattle.paper.specs.Words.{any_b}
-use Rattle.derivation.proofs.Runs.{any_hit, any_miss, any_end}
 use Rattle.derivation.proofs.ref_lists.bad_entry.Given as goal
 
 abbrev pub invariant-loop-i : goal.invariant-loop-i

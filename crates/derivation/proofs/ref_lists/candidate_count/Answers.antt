@@ -3,8 +3,6 @@
 use native.Mathlib.Omega.{arith}
 use Rattle.derivation.specs.Lists.{refs_in}
 use Rattle.derivation.proofs.Runs.{members_length, length_0, length_1}
-use borrow.Author.Rules.{rules}
-
 use Rattle.derivation.proofs.ref_lists.candidate_count.Goals as goal
 
 pub returns : goal.returns

@@ -1,16 +1,11 @@
-use mathlib.Core.Path.{◌≡◌, refl, ◌∙◌}
 use mathlib.Core.Bool.{Bool}
 use mathlib.Core.List.{List}
-use Prim.Native.Nat.{ℕ, ◌-◌, ◌≤◌, ◌<◌}
-use native.Mathlib.Omega.{arith}
-use lib.ListN.{length}
-use borrow.Author.Rules.{rules}
+use Prim.Native.Nat.{ℕ, ◌-◌, ◌≤◌}
 use Rattle.paper.specs.declared.Serial.{Serial}
 use Rattle.paper.specs.Words.{table}
 use Rattle.derivation.specs.Pad.{Padded}
 use Rattle.derivation.specs.declared.ref_lists.Refs.{Refs}
 use Rattle.derivation.specs.Lists.{refs_in, blank_serial, candidates_of, place_of}
-use Rattle.derivation.proofs.Runs.{Fills, fills, holds_none, holds_more}
 use Rattle.derivation.proofs.ref_lists.places.Given as goal
 
 abbrev at : List ℕ → Refs → Serial → Bool → Bool → Bool → List ℕ → ℕ → ℕ → Serial

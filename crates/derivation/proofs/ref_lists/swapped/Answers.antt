@@ -3,8 +3,6 @@ use native.Mathlib.Omega.{arith}
 use borrow.Author.Tests.{lt-ltb, le-ltb}
 use Prim.Native.Nat.{◌+◌}
 use Rattle.derivation.specs.Lists.{swapped_at}
-use borrow.Author.Rules.{rules}
-
 use Rattle.derivation.proofs.ref_lists.swapped.Goals as goal
 
 pub returns-then-i-a : goal.returns-then-i-a

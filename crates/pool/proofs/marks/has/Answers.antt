@@ -1,9 +1,7 @@
 -- A shifted word's lowest digit is the bit; a surface that is none of the pool's has none.
 use Rattle.paper.specs.Numbers.{bit}
-use borrow.Author.Tests.{lt-ltb, le-ltb}
+use borrow.Author.Tests.{lt-ltb}
 use native.Mathlib.Omega.{arith}
-use borrow.Author.Rules.{rules}
-
 use Rattle.pool.proofs.marks.has.Goals as goal
 
 pub returns-then-x-n : goal.returns-then-x-n

@@ -1,7 +1,5 @@
 -- The zeros below the lowest free bit are as many as the lowest free surface says.
 use Rattle.pool.proofs.MarkLaws.{lowest_is}
-use borrow.Author.Rules.{rules}
-
 use Rattle.pool.proofs.marks.lowest_free.Goals as goal
 
 pub returns : goal.returns

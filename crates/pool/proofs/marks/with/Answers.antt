@@ -1,8 +1,6 @@
 -- The bit of a surface of the pool is set, and no other bit is changed.
-use Rattle.pool.proofs.MarkLaws.{with_bit, with_none}
+use Rattle.pool.proofs.MarkLaws.{with_bit}
 use native.Mathlib.Omega.{arith}
-use borrow.Author.Rules.{rules}
-
 use Rattle.pool.proofs.marks.with.Goals as goal
 
 pub returns-then-x-n : goal.returns-then-x-n

@@ -1,8 +1,6 @@
 -- The bit of a surface of the pool is off, and no other bit is changed.
-use Rattle.pool.proofs.MarkLaws.{without_bit, without_none}
+use Rattle.pool.proofs.MarkLaws.{without_bit}
 use native.Mathlib.Omega.{arith}
-use borrow.Author.Rules.{rules}
-
 use Rattle.pool.proofs.marks.without.Goals as goal
 
 pub returns-then-x-n : goal.returns-then-x-n

@@ -7,8 +7,6 @@ use Rattle.paper.specs.Ledger.{read_reply}
 use Rattle.paper.specs.Accounts.{tail_in}
 use Rattle.pool.specs.Marks.{Told}
 use Rattle.pool.proofs.TailLaws.{told_quiet, quiet_reply, tail_of}
-use borrow.Author.Rules.{rules}
-
 use Rattle.pool.proofs.tails.account.Goals as goal
 
 pub returns-then-refused-u16_at : goal.returns-then-refused-u16_at

@@ -8,8 +8,6 @@ use Rattle.paper.specs.Reading.{shown_width_in}
 use Rattle.paper.specs.WholeReply.{past_items, released_at}
 use Rattle.format.proofs.Ends.{past_count_lem}
 use Rattle.pool.proofs.TailLaws.{told_tail}
-use borrow.Author.Rules.{rules}
-
 use Rattle.pool.proofs.tails.tell.Goals as goal
 
 pub returns : goal.returns

@@ -1,22 +1,19 @@
 -- What is left of the pictures handed out from a place on sets the bits that all of them set from the first place on.
-use Prim.Native.Nat.{ℕ, ◌+◌, ◌-◌, ◌*◌, ◌≤◌}
-use mathlib.Core.Path.{◌≡◌, ap, ◌∙◌}
+use Prim.Native.Nat.{ℕ, ◌+◌, ◌-◌}
+use mathlib.Core.Path.{ap, ◌∙◌}
 use mathlib.Core.Bool.{◌||◌}
 use native.Mathlib.Omega.{arith}
-use borrow.Author.Rules.{rules}
 use lib.ListN.{drop}
 use Rattle.paper.specs.Numbers.{bit}
 use Rattle.paper.specs.Ledger.{read_shown}
 use Rattle.pool.specs.Calls.{shown_on}
 use Rattle.pool.specs.Marks.{hit}
 use Rattle.pool.proofs.TailLaws.{shown_again, shown_ends}
-
 use Rattle.pool.proofs.tails.with_shown.Goals as goal
 
 pub loop-i-preserved : goal.loop-i-preserved
 loop-i-preserved c =
-    let h = rw c.u32_at-x.ensures at c.with-marked.ensures in
-     (
+    let h = rw c.u32_at-x.ensures at c.with-marked.ensures in (
       omega arith,
       (
         omega (arith, c.shown_width.ensures),

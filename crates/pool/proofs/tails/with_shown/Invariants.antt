@@ -1,14 +1,11 @@
 use Prim.Native.Nat.{ℕ, ◌+◌, ◌-◌, ◌*◌, ◌≤◌}
-use mathlib.Core.Path.{◌≡◌, ap, ◌∙◌}
+use mathlib.Core.Path.{◌≡◌}
 use mathlib.Core.Bool.{◌||◌}
-use native.Mathlib.Omega.{arith}
-use borrow.Author.Rules.{rules}
 use lib.ListN.{drop}
 use Rattle.paper.specs.Numbers.{bit}
 use Rattle.paper.specs.Ledger.{read_shown}
 use Rattle.pool.specs.Calls.{shown_on}
 use Rattle.pool.specs.Marks.{hit}
-use Rattle.pool.proofs.TailLaws.{shown_again, shown_ends}
 use Rattle.pool.proofs.tails.with_shown.Given as goal
 
 abbrev pub invariant-loop-i : goal.invariant-loop-i

@@ -1,16 +1,7 @@
 -- What is left of the surfaces from a place on clears the bits that all of them clear from the first place on.
-use Prim.Native.Nat.{ℕ, ◌+◌, ◌-◌, ◌*◌, ◌≤◌}
-use mathlib.Core.Path.{◌≡◌, ap, ◌∙◌}
-use mathlib.Core.List.{map}
-use mathlib.Core.Bool.{not, ◌&&◌}
+use mathlib.Core.Path.{◌∙◌}
 use native.Mathlib.Omega.{arith}
-use lib.ListN.{drop}
-use Rattle.paper.specs.Numbers.{bit, a_surface}
-use Rattle.paper.specs.Kinds.{word_width}
-use Rattle.paper.specs.Ledger.{read_words}
-use Rattle.pool.specs.Marks.{hit}
 use Rattle.pool.proofs.TailLaws.{released_again, released_ends}
-
 use Rattle.pool.proofs.tails.without_released.Goals as goal
 
 pub loop-i-preserved : goal.loop-i-preserved

@@ -1,14 +1,12 @@
 use Prim.Native.Nat.{ℕ, ◌+◌, ◌-◌, ◌*◌, ◌≤◌}
-use mathlib.Core.Path.{◌≡◌, ap, ◌∙◌}
+use mathlib.Core.Path.{◌≡◌}
 use mathlib.Core.List.{map}
 use mathlib.Core.Bool.{not, ◌&&◌}
-use native.Mathlib.Omega.{arith}
 use lib.ListN.{drop}
 use Rattle.paper.specs.Numbers.{bit, a_surface}
 use Rattle.paper.specs.Kinds.{word_width}
 use Rattle.paper.specs.Ledger.{read_words}
 use Rattle.pool.specs.Marks.{hit}
-use Rattle.pool.proofs.TailLaws.{released_again, released_ends}
 use Rattle.pool.proofs.tails.without_released.Given as goal
 
 abbrev pub invariant-loop-i : goal.invariant-loop-i

@@ -17,8 +17,6 @@ use Rattle.session.proofs.Saying.{does_refuse, as_decided}
 use Rattle.session.proofs.Targets.{read_as, fields_as}
 use Rattle.session.specs.View.{memory, session_in, front_in}
 use Rattle.session.specs.Target.{fields_with, fields_at}
-use borrow.Author.Rules.{rules}
-
 use Rattle.session.proofs.begin.begin.Goals as goal
 
 pub returns-then-not-is_configured : goal.returns-then-not-is_configured
@@ -30,7 +28,7 @@ returns-then-not-is_configured c =
     let fields : Fields =
     fields_at c.args.target c.args.msg.now
     in
-       does_refuse (begin_1 (session) (fields) (ap not (sym c.is_configured.ensures) ∙ c.if-not-is_configured.true-raw)) c.refuse.ensures
+    does_refuse (begin_1 (session) (fields) (ap not (sym c.is_configured.ensures) ∙ c.if-not-is_configured.true-raw)) c.refuse.ensures
 
 pub returns-then-is_busy : goal.returns-then-is_busy
 unfolding front_in
@@ -44,7 +42,7 @@ returns-then-is_busy c =
     let set_up : not (session).configured ≡ false =
     ap not (sym c.is_configured.ensures) ∙ c.if-not-is_configured.false-raw
     in
-       does_refuse (begin_3 (session) (fields) (set_up) (is_now c.args.front.now ∙ sym c.is_busy.ensures ∙ c.if-is_busy.true)) c.refuse-then-is_busy.ensures
+    does_refuse (begin_3 (session) (fields) (set_up) (is_now c.args.front.now ∙ sym c.is_busy.ensures ∙ c.if-is_busy.true)) c.refuse-then-is_busy.ensures
 
 pub returns-then-not-begin_ranges : goal.returns-then-not-begin_ranges
 unfolding front_in
@@ -67,7 +65,7 @@ returns-then-not-begin_ranges c =
     let ranges : c.begin_ranges.result ≡ begin_ranges (modulus (session).limits) (fields) =
     c.begin_ranges.ensures ∙ (λ i. begin_ranges (modulus (c.limits_in-l.ensures i)) (read i))
     in
-       does_refuse (begin_5 (session) (fields) (set_up) (idle) (ap not (sym (ranges)) ∙ c.if-not-begin_ranges.true-raw)) c.refuse-then-not-begin_ranges.ensures
+    does_refuse (begin_5 (session) (fields) (set_up) (idle) (ap not (sym (ranges)) ∙ c.if-not-begin_ranges.true-raw)) c.refuse-then-not-begin_ranges.ensures
 
 pub returns-then-next_serial-eq-MISSING : goal.returns-then-next_serial-eq-MISSING
 unfolding front_in
@@ -96,7 +94,7 @@ returns-then-next_serial-eq-MISSING c =
     let last : eqb (session).next missing.0 ≡ eqb c.next_serial.result.0 missing.0 =
     ap (λ (n : Serial). eqb n.0 missing.0) (sym c.next_serial.ensures)
     in
-       does_refuse (begin_8 (session) (fields) (set_up) (idle) (within) (last ∙ eq-eqb _ _ c.if-next_serial-eq-MISSING.true)) c.refuse-then-next_serial-eq-MISSING.ensures
+    does_refuse (begin_8 (session) (fields) (set_up) (idle) (within) (last ∙ eq-eqb _ _ c.if-next_serial-eq-MISSING.true)) c.refuse-then-next_serial-eq-MISSING.ensures
 
 pub returns-then-holds_surface : goal.returns-then-holds_surface
 unfolding fields_with front_in
@@ -131,7 +129,7 @@ returns-then-holds_surface c =
     let held : c.holds_surface.result ≡ any_b (held_by (fields).surface) (session).store =
     c.holds_surface.ensures ∙ ap (λ (f : Fields). any_b (held_by f.surface) (session).store) (read)
     in
-       does_refuse (begin_7 (session) (fields) (set_up) (idle) (within) (unspent) (sym (held) ∙ c.if-holds_surface.true)) c.refuse-then-holds_surface.ensures
+    does_refuse (begin_7 (session) (fields) (set_up) (idle) (within) (unspent) (sym (held) ∙ c.if-holds_surface.true)) c.refuse-then-holds_surface.ensures
 
 pub begin_inside-requires : goal.begin_inside-requires
 unfolding front_in
@@ -162,8 +160,7 @@ begin_inside-requires c =
     in
     let unspent : eqb (session).next missing.0 ≡ false =
     last ∙ ne_eqb _ _ c.if-next_serial-eq-MISSING.false
-    in
-        (
+    in (
       record {
         limits = c.limits_in-l.ensures;
         fields = read_as c.args.target c.args.msg.now c.begin_fields-h.ensures;
@@ -187,4 +184,4 @@ returns c =
     let read : fields_with c.begin_fields-h.result.surface c.args.msg.now ≡ fields =
     fields_as c.args.target c.args.msg.now c.begin_fields-h.ensures
     in
-       as_decided (ap (begin_of (session)) (sym (read))) c.begin_inside.ensures
+    as_decided (ap (begin_of (session)) (sym (read))) c.begin_inside.ensures

@@ -7,8 +7,6 @@ use Rattle.session.proofs.Begins.{outside, Counted, no_poc, placed}
 use Rattle.session.proofs.Saying.{does_refuse}
 use Rattle.session.specs.Starts.{flags_from, prev_from}
 use Rattle.session.specs.View.{memory, session_in, front_in}
-use borrow.Author.Rules.{rules}
-
 use Rattle.session.proofs.begin.begin_inside.Goals as goal
 
 pub begin_at-requires : goal.begin_at-requires
@@ -23,7 +21,6 @@ begin_at-requires c =
       poc = c.derive_poc.ensures.answer ∙ (λ i. poc_answer (modulus (c.requires.0.limits i)) ((c.prev_for.ensures ∙ ap (prev_from c.flags_of-flags.result.over) c.prev_in-q.ensures) i) c.args.h.lsb);
     }
     in
-       
     (placed c.requires.0 (counted) _ _ c.in-Val.is, c.requires.1)
 
 pub returns-in-Outside : goal.returns-in-Outside
@@ -38,4 +35,4 @@ returns-in-Outside c =
       poc = c.derive_poc.ensures.answer ∙ (λ i. poc_answer (modulus (c.requires.0.limits i)) ((c.prev_for.ensures ∙ ap (prev_from c.flags_of-flags.result.over) c.prev_in-q.ensures) i) c.args.h.lsb);
     }
     in
-       does_refuse (outside (session) c.args.msg.now c.requires.0 (no_poc c.requires.0 (counted) c.in-Outside.is)) c.refuse.ensures
+    does_refuse (outside (session) c.args.msg.now c.requires.0 (no_poc c.requires.0 (counted) c.in-Outside.is)) c.refuse.ensures

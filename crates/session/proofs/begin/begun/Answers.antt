@@ -10,8 +10,6 @@ use Rattle.store.proofs.Ends.{tail_good}
 use Rattle.session.specs.View.{memory, front_in}
 use Rattle.session.specs.Starts.{current_from, told_from}
 use Rattle.session.proofs.Begins.{few_members, tells, begun_does}
-use borrow.Author.Rules.{rules}
-
 use Rattle.session.proofs.begin.begun.Goals as goal
 
 pub put_begun-a-requires : goal.put_begun-a-requires

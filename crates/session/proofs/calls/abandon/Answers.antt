@@ -1,8 +1,6 @@
 -- `abandon`: refused where no picture is current, else `abandon_at` of that picture; the definition asks the same.
 use mathlib.Core.Path.{sym, ◌∙◌}
 use Rattle.session.proofs.Saying.{abandon_4}
-use borrow.Author.Rules.{rules}
-
 use Rattle.session.proofs.calls.abandon.Goals as goal
 
 pub returns-in-Idle : goal.returns-in-Idle

@@ -2,7 +2,6 @@
 use Rattle.store.proofs.Ends.{tail_good}
 use Rattle.session.proofs.Saying.{abandon_does, idles}
 use borrow.Author.Rules.{rules}
-
 use Rattle.session.proofs.calls.abandon_at.Goals as goal
 
 pub put_done-requires : goal.put_done-requires

@@ -9,7 +9,6 @@ use Rattle.paper.specs.State.{taken16}
 use Rattle.session.proofs.Ways.{ranges_no, ranges_yes}
 use Rattle.session.proofs.Saying.{room_now, configure_2, configure_9, configure_does, idles}
 use borrow.Author.Rules.{rules}
-
 -- the limits of the record are in range
 use Rattle.session.proofs.calls.configure.Goals as goal
 
@@ -22,7 +21,7 @@ returns-then-is_stuck c =
     let fine : configure_ranges (limits_of c.args.msg.now) ≡ true =
     ranges_yes c.limits_of-l.ensures c.configure_ranges.ensures c.if-not-configure_ranges.false-raw
     in
-       λ xs. configure_9 c.before.before.args.front.now xs c.before.before.args.store.now (limits_of c.before.before.args.msg.now) (fine) (sym (c.is_stuck.ensures xs) ∙ c.if-is_stuck.true) c.refuse-then-is_stuck.ensures
+    λ xs. configure_9 c.before.before.args.front.now xs c.before.before.args.store.now (limits_of c.before.before.args.msg.now) (fine) (sym (c.is_stuck.ensures xs) ∙ c.if-is_stuck.true) c.refuse-then-is_stuck.ensures
 
 pub drain_as-a-requires : goal.drain_as-a-requires
 drain_as-a-requires c =
@@ -33,6 +32,6 @@ returns c =
     let fine : configure_ranges (limits_of c.args.msg.now) ≡ true =
     ranges_yes c.limits_of-l.ensures c.configure_ranges.ensures c.if-not-configure_ranges.false-raw
     in
-       λ xs.
+    λ xs.
     configure_does c.before.before.args.front.now xs c.before.before.args.store.now (limits_of c.before.before.args.msg.now) c.put_idle.new.h (fine) (sym (c.is_stuck.ensures xs) ∙ c.if-is_stuck.false) c.drain_as-a.ensures (idles (c.put_idle.ensures.front, c.put_idle.ensures.words))
     c.put_limits.ensures.front c.put_limits.ensures.words (c.taken_limits.ensures ∙ ap taken16 c.limits_of-l.ensures)

@@ -3,7 +3,6 @@ use mathlib.Core.Path.{sym, ◌∙◌}
 use mathlib.Core.List.{[]}
 use Rattle.session.proofs.Saying.{room_now, drain_9, drain_does}
 use borrow.Author.Rules.{rules}
-
 use Rattle.session.proofs.calls.drain.Goals as goal
 
 pub returns-then-is_stuck : goal.returns-then-is_stuck

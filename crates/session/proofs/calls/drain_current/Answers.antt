@@ -2,7 +2,6 @@
 use Rattle.store.proofs.Ends.{tail_good}
 use Rattle.session.proofs.Saying.{drained_now_lem, idles}
 use borrow.Author.Rules.{rules}
-
 use Rattle.session.proofs.calls.drain_current.Goals as goal
 
 pub put_done-requires : goal.put_done-requires

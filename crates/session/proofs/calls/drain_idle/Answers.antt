@@ -2,7 +2,6 @@
 use Rattle.store.proofs.Ends.{tail_good}
 use Rattle.session.proofs.Saying.{drained_idle, idles}
 use borrow.Author.Rules.{rules}
-
 use Rattle.session.proofs.calls.drain_idle.Goals as goal
 
 pub put_done-requires : goal.put_done-requires

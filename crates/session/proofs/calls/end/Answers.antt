@@ -1,7 +1,5 @@
 -- Only the flag is set, and the tail is empty.
 use Rattle.session.proofs.Saying.{end_does}
-use borrow.Author.Rules.{rules}
-
 use Rattle.session.proofs.calls.end.Goals as goal
 
 pub returns : goal.returns

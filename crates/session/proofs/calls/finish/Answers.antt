@@ -1,8 +1,6 @@
 -- `finish`: refused where no picture is current, else `finish_at` of that picture; the definition asks the same.
 use mathlib.Core.Path.{sym, ◌∙◌}
 use Rattle.session.proofs.Saying.{finish_4}
-use borrow.Author.Rules.{rules}
-
 use Rattle.session.proofs.calls.finish.Goals as goal
 
 pub returns-in-Idle : goal.returns-in-Idle

@@ -3,8 +3,6 @@ use mathlib.Core.Path.{sym, ap₂, ◌∙◌}
 use mathlib.Core.Bool.{Bool, ◌&&◌}
 use Rattle.session.proofs.Fronts.{is_now}
 use Rattle.session.proofs.Saying.{full_is}
-use borrow.Author.Rules.{rules}
-
 use Rattle.session.proofs.calls.is_stuck.Goals as goal
 
 pub returns : goal.returns

@@ -5,8 +5,6 @@ use borrow.Author.Tests.{not-true, not-false}
 use Rattle.paper.specs.Records.{slice_of, entries0}
 use Rattle.derivation.specs.Lists.{refs_in}
 use Rattle.session.proofs.Slicing.{laid, count_0, entries_0, ready_0, unused_0, held_0}
-use borrow.Author.Rules.{rules}
-
 use Rattle.session.proofs.lists.first_list.Goals as goal
 
 pub returns-then-not-x : goal.returns-then-not-x
@@ -25,7 +23,7 @@ returns c =
     let counted : c.entry_count-e.result ≡ entries0 c.args.msg.now =
     count_0 c.args.msg.now c.requires.1.ask0 c.entry_count-e.ensures
     in
-       let uses = not-false c.args.h.ask0.uses c.if-not-x.false in
+    let uses = not-false c.args.h.ask0.uses c.if-not-x.false in
     let es = entries_0 c.args.msg.now c.requires.0 (counted) in
     held_0 (refs_in c.args.sets.now c.args.refs) c.args.c (slice_of c.args.msg.now) c.build_ref_pic_list.result c.requires.1.own uses c.requires.1.ask0 es
     c.candidate_count-n.ensures c.ends_with_own-last.ensures (ready_0 c.args.msg.now c.requires.2 c.requires.1.own c.requires.1.ask0 uses es) c.build_ref_pic_list.ensures

@@ -4,8 +4,6 @@ use borrow.Author.Tests.{not-true, not-false}
 use Rattle.paper.specs.Records.{slice_of}
 use Rattle.derivation.specs.Lists.{refs_in}
 use Rattle.session.proofs.Slicing.{Judging, fails_5, fails_10, fails_11, fails_12, passes}
-use borrow.Author.Rules.{rules}
-
 use Rattle.session.proofs.lists.judged.Goals as goal
 
 pub returns-then-not-lists_ranges : goal.returns-then-not-lists_ranges
@@ -44,7 +42,7 @@ returns-then-bad_entries c =
       count = rw (← c.requires.1.own) c.candidate_count-n.ensures;
     }
     in
-       fails_12 (seen) c.if-x-n.false c.too_many.ensures c.too_many-2.ensures c.if-too_many.false c.bad_entries.ensures c.if-bad_entries.true
+    fails_12 (seen) c.if-x-n.false c.too_many.ensures c.too_many-2.ensures c.if-too_many.false c.bad_entries.ensures c.if-bad_entries.true
 
 pub returns : goal.returns
 returns c =
@@ -55,4 +53,4 @@ returns c =
       count = rw (← c.requires.1.own) c.candidate_count-n.ensures;
     }
     in
-       passes (seen) c.if-x-n.false c.too_many.ensures c.too_many-2.ensures c.if-too_many.false c.bad_entries.ensures c.if-bad_entries.false
+    passes (seen) c.if-x-n.false c.too_many.ensures c.too_many-2.ensures c.if-too_many.false c.bad_entries.ensures c.if-bad_entries.false

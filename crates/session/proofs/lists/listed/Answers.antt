@@ -1,7 +1,5 @@
 -- `listed`: the two lists that were built are written as they stand.
 use Rattle.session.proofs.Slicing.{listable, says_listed}
-use borrow.Author.Rules.{rules}
-
 use Rattle.session.proofs.lists.listed.Goals as goal
 
 pub put_lists-requires : goal.put_lists-requires

@@ -5,8 +5,6 @@ use Rattle.paper.specs.Records.{slice_of}
 use Rattle.derivation.specs.Lists.{refs_in}
 use Rattle.session.specs.View.{memory, session_in, front_in}
 use Rattle.session.proofs.Slicing.{answers_now, answers_idle}
-use borrow.Author.Rules.{rules}
-
 use Rattle.session.proofs.lists.lists.Goals as goal
 
 pub returns-in-Idle : goal.returns-in-Idle

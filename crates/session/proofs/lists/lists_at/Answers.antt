@@ -3,8 +3,6 @@
 use Rattle.paper.specs.Records.{slice_of}
 use Rattle.derivation.specs.Lists.{refs_in}
 use Rattle.session.proofs.Slicing.{fine_is, answers_no, answers_lists}
-use borrow.Author.Rules.{rules}
-
 use Rattle.session.proofs.lists.lists_at.Goals as goal
 
 pub returns-in-No : goal.returns-in-No

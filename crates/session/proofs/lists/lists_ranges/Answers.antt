@@ -7,8 +7,6 @@ use Rattle.paper.specs.Ranges.{active_ok, lists_ranges}
 use Rattle.format.specs.declared.records.Ask.{Ask}
 use Rattle.format.specs.declared.records.SliceFields.{SliceFields}
 use Rattle.format.specs.Reads.{AsksAs, ReadsAs}
-use borrow.Author.Rules.{rules}
-
 use Rattle.session.proofs.lists.lists_ranges.Goals as goal
 
 abbrev tested : Ask → Bool

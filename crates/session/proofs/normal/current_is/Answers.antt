@@ -8,7 +8,6 @@ use Rattle.store.proofs.Deciding.{words_told}
 use Rattle.session.specs.FrontPlaces.{CURRENT}
 use Rattle.session.specs.Laid.{words_from, current_words}
 use borrow.Author.Rules.{rules}
-
 use Rattle.session.proofs.normal.current_is.Goals as goal
 
 pub returns : goal.returns

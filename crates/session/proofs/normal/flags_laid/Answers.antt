@@ -6,8 +6,6 @@ use Rattle.store.specs.StoreWords.{flag_word}
 use Rattle.store.proofs.Deciding.{cons, words_told, told_as}
 use Rattle.session.specs.FrontPlaces.{CONFIGURED}
 use Rattle.session.specs.Laid.{words_from}
-use borrow.Author.Rules.{rules}
-
 use Rattle.session.proofs.normal.flags_laid.Goals as goal
 
 pub returns : goal.returns

@@ -1,7 +1,5 @@
 -- The front is in order part by part, and the store is in normal form.
 use Rattle.session.proofs.Layouts.{memory_told}
-use borrow.Author.Rules.{rules}
-
 use Rattle.session.proofs.normal.is_normal.Goals as goal
 
 pub returns : goal.returns

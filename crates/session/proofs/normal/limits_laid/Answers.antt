@@ -4,8 +4,6 @@ use Rattle.paper.specs.Words.{table}
 use Rattle.store.proofs.Deciding.{words_told, told_as}
 use Rattle.session.specs.FrontPlaces.{K}
 use Rattle.session.specs.Laid.{limits_words, words_from}
-use borrow.Author.Rules.{rules}
-
 use Rattle.session.proofs.normal.limits_laid.Goals as goal
 
 pub returns : goal.returns

@@ -9,7 +9,6 @@ use Rattle.store.proofs.Deciding.{words_told, told_as}
 use Rattle.session.specs.FrontPlaces.{PREV}
 use Rattle.session.specs.Laid.{prev_words, words_from}
 use borrow.Author.Rules.{rules}
-
 use Rattle.session.proofs.normal.prev_laid.Goals as goal
 
 pub returns-in-Nothing : goal.returns-in-Nothing

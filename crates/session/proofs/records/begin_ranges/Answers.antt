@@ -2,9 +2,7 @@
 -- entries behind them.
 use Prim.Native.Nat.{◌+◌, ◌^◌, ◌≤◌, min}
 use native.Mathlib.Omega.{arith}
-use borrow.Author.Rules.{rules}
 use Rattle.session.proofs.Entries.{begin_out, begin_few, begin_on}
-
 use Rattle.session.proofs.records.begin_ranges.Goals as goal
 
 pub returns-then-not-field_ranges : goal.returns-then-not-field_ranges

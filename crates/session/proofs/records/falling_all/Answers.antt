@@ -1,17 +1,12 @@
 -- The test of the entries so far holds, until one entry fails it.
-use mathlib.Core.Bool.{true}
-use mathlib.Core.Path.{◌≡◌, sym, ap, ◌∙◌}
-use Prim.Native.Nat.{ℕ, ◌-◌, ◌≤◌}
+use mathlib.Core.Path.{◌≡◌, sym, ◌∙◌}
 use native.Mathlib.Omega.{arith}
 use borrow.Author.Rules.{rules}
 use lib.IntN.{pos}
 use mir.Syntax.{w32}
 use mir.Val.{to_z, of_z}
-use Rattle.paper.specs.Ranges.{falling}
 use Rattle.paper.specs.Records.{short_at}
-use Rattle.paper.specs.Words.{table}
-use Rattle.session.proofs.Entries.{falls, last_of, last_none, run_none, run_on, run_out}
-
+use Rattle.session.proofs.Entries.{falls, last_none, run_none, run_on, run_out}
 use Rattle.session.proofs.records.falling_all.Goals as goal
 
 pub loop-i-init : goal.loop-i-init

@@ -1,19 +1,16 @@
 -- The test of the entries so far holds, until one entry fails it.
-use mathlib.Core.Bool.{true}
-use mathlib.Core.Path.{◌≡◌, sym, ap, ◌∙◌}
-use Prim.Native.Nat.{ℕ, ◌-◌, ◌^◌, ◌≤◌, min}
+use mathlib.Core.Path.{◌≡◌, sym, ◌∙◌}
+use Prim.Native.Nat.{ℕ, ◌^◌, min}
 use native.Mathlib.Omega.{arith}
-use borrow.Author.Rules.{rules}
 use borrow.Author.Tests.{not-true, not-false}
 use Rattle.paper.specs.Ranges.{long_ok}
 use Rattle.paper.specs.Records.{long_at}
 use Rattle.paper.specs.Words.{all_b, table}
 use Rattle.session.proofs.Entries.{all_none, all_table, goes_on, stops}
-
 use Rattle.session.proofs.records.longs_all.Goals as goal
 
 pub loop-i-init : goal.loop-i-init
-loop-i-init c =  (omega arith, all_none (long_ok (2 ^ (min c.args.k 16))) (long_at c.args.msg.now c.args.at))
+loop-i-init c = (omega arith, all_none (long_ok (2 ^ (min c.args.k 16))) (long_at c.args.msg.now c.args.at))
 
 pub returns-then-not-long_ok : goal.returns-then-not-long_ok
 returns-then-not-long_ok c =

@@ -1,13 +1,9 @@
 use mathlib.Core.Bool.{true}
-use mathlib.Core.Path.{◌≡◌, sym, ap, ◌∙◌}
-use Prim.Native.Nat.{ℕ, ◌-◌, ◌^◌, ◌≤◌, min}
-use native.Mathlib.Omega.{arith}
-use borrow.Author.Rules.{rules}
-use borrow.Author.Tests.{not-true, not-false}
+use mathlib.Core.Path.{◌≡◌}
+use Prim.Native.Nat.{◌-◌, ◌^◌, ◌≤◌, min}
 use Rattle.paper.specs.Ranges.{long_ok}
 use Rattle.paper.specs.Records.{long_at}
 use Rattle.paper.specs.Words.{all_b, table}
-use Rattle.session.proofs.Entries.{all_none, all_table, goes_on, stops}
 use Rattle.session.proofs.records.longs_all.Given as goal
 
 abbrev pub invariant-loop-i : goal.invariant-loop-i

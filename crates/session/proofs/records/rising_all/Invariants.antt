@@ -1,15 +1,11 @@
 use mathlib.Core.Bool.{true}
-use mathlib.Core.Path.{◌≡◌, sym, ap, ◌∙◌}
-use Prim.Native.Nat.{ℕ, ◌-◌, ◌≤◌}
-use native.Mathlib.Omega.{arith}
-use borrow.Author.Rules.{rules}
+use mathlib.Core.Path.{◌≡◌}
+use Prim.Native.Nat.{◌-◌, ◌≤◌}
 use lib.IntN.{pos}
-use mir.Syntax.{w32}
-use mir.Val.{to_z, of_z}
 use Rattle.paper.specs.Ranges.{rising}
 use Rattle.paper.specs.Records.{short_at}
 use Rattle.paper.specs.Words.{table}
-use Rattle.session.proofs.Entries.{rises, last_of, last_none, run_none, run_on, run_out}
+use Rattle.session.proofs.Entries.{last_of}
 use Rattle.session.proofs.records.rising_all.Given as goal
 
 abbrev pub invariant-loop-i : goal.invariant-loop-i

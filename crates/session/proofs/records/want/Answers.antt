@@ -2,9 +2,8 @@
 use mir.Syntax.{w32}
 use mir.Val.{SFits}
 use mir.ValLaws.{to_z-of_z}
-use Rattle.session.proofs.Wishing.{wants_outside, wants_is}
+use Rattle.session.proofs.Wishing.{wants_is}
 use borrow.Author.Rules.{rules}
-
 use Rattle.session.proofs.records.want.Goals as goal
 
 pub returns-in-Is : goal.returns-in-Is

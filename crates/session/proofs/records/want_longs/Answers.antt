@@ -1,17 +1,13 @@
 -- Each turn puts the wish of one entry behind those that are there.
 use mathlib.Core.Path.{◌≡◌, ◌∙◌}
-use Prim.Native.Nat.{◌+◌, ◌-◌, ◌*◌, ◌^◌, ◌≤◌, min}
+use Prim.Native.Nat.{◌+◌, ◌*◌, ◌^◌, min}
 use native.Mathlib.Omega.{arith}
-use borrow.Author.Rules.{rules}
-use mir.Facts.{to_z-of_z}
 use mir.Syntax.{w32}
 use mir.Val.{to_z, of_z}
 use Rattle.paper.specs.Records.{long_at}
 use Rattle.paper.specs.Sets.{long_wish}
 use Rattle.derivation.specs.Answers.{wanted_of}
-use Rattle.session.specs.Parts.{longs_at, WantsAll}
 use Rattle.session.proofs.Wishing.{wants_none, wants_more}
-
 use Rattle.session.proofs.records.want_longs.Goals as goal
 
 pub loop-i-init : goal.loop-i-init

@@ -1,17 +1,12 @@
 -- Each turn puts the wish of one entry behind those that are there.
 use mathlib.Core.Path.{◌≡◌, ◌∙◌}
-use Prim.Native.Nat.{◌-◌, ◌≤◌}
 use native.Mathlib.Omega.{arith}
-use borrow.Author.Rules.{rules}
-use mir.Facts.{to_z-of_z}
 use mir.Syntax.{w32}
 use mir.Val.{to_z, of_z}
 use Rattle.paper.specs.Records.{short_at}
 use Rattle.paper.specs.Sets.{short_wish}
 use Rattle.derivation.specs.Answers.{wanted_of}
-use Rattle.session.specs.Parts.{shorts_at, WantsAll}
 use Rattle.session.proofs.Wishing.{wants_none, wants_more}
-
 use Rattle.session.proofs.records.want_shorts.Goals as goal
 
 pub loop-i-init : goal.loop-i-init

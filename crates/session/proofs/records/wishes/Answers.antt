@@ -1,9 +1,7 @@
 -- The short-term wishes stand first, neg before pos, and the long-term ones behind them leave them so.
 use Prim.Native.Nat.{◌^◌, min}
-use borrow.Author.Rules.{rules}
 use mir.Facts.{to_z-of_z}
 use Rattle.session.proofs.Wishing.{holds_wishes}
-
 use Rattle.session.proofs.records.wishes.Goals as goal
 
 pub returns : goal.returns

@@ -1,5 +1,4 @@
 -- What is told, the sizes, the members and the tail from 6 on, and the head before them.
-use borrow.Author.Rules.{rules}
 use Prim.Native.Nat.{◌+◌, ◌≤◌}
 use mathlib.Core.List.{◌++◌}
 use mathlib.Core.Path.{◌≡◌, ◌∙◌}
@@ -10,7 +9,6 @@ use Rattle.paper.specs.Replies.{tail_bytes}
 use Rattle.session.specs.Written.{told_bytes, sizes_bytes, member_bytes}
 use Rattle.store.specs.Tails.{tail_in}
 use Rattle.session.proofs.Bytes.{run, run_on, length_told, tail_room, members_room, framed_last}
-
 use Rattle.session.proofs.replies.put_begun.Goals as goal
 
 pub put_tail-len-requires : goal.put_tail-len-requires

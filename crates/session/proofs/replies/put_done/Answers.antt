@@ -1,10 +1,8 @@
 -- The tail from 6 on, and the head before it.
-use borrow.Author.Rules.{rules}
 use native.Mathlib.Omega.{arith}
 use Rattle.paper.specs.Replies.{tail_bytes}
 use Rattle.store.specs.Tails.{tail_in}
 use Rattle.session.proofs.Bytes.{tail_room, framed_last}
-
 use Rattle.session.proofs.replies.put_done.Goals as goal
 
 pub overflow_cast-len : goal.overflow_cast-len

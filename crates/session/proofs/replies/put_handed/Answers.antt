@@ -1,6 +1,6 @@
 -- The count, and then each turn writes one picture of twelve bytes behind those before it.
 use borrow.Author.Rules.{rules}
-use Prim.Native.Nat.{ℕ, ◌+◌, ◌-◌, ◌*◌, ◌≤◌}
+use Prim.Native.Nat.{ℕ}
 use mathlib.Core.Path.{◌≡◌, sym}
 use mathlib.Core.List.{[], ◌∷◌}
 use native.Mathlib.Omega.{arith}
@@ -12,14 +12,12 @@ use Rattle.paper.specs.Replies.{shown_bytes}
 use Rattle.store.specs.Tails.{no_shown}
 use Rattle.wire.proofs.Laws.{runs}
 use Rattle.derivation.proofs.Pad.{is_long}
-use Rattle.session.proofs.Bytes.{Laid, laid_none, laid_more, take_table, length_shown}
-
+use Rattle.session.proofs.Bytes.{laid_none, laid_more, take_table, length_shown}
 use Rattle.session.proofs.replies.put_handed.Goals as goal
 
 pub loop-i-init : goal.loop-i-init
 loop-i-init c =
     let l : length c.put_u8-a.new.d ≡ length c.args.d.now = search rules in
-    
     (search rules, (c.requires.0.handed.room, is_long c.requires.0.handed, omega (arith, c.put_u8-a.ensures.0, l, c.requires.1)), laid_none shown_bytes (λ (j : ℕ). get_or c.args.m.handed j no_shown) c.put_u8-a.new.d c.put_u8-a.result)
 
 pub loop-i-preserved : goal.loop-i-preserved

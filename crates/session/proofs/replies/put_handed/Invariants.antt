@@ -1,17 +1,10 @@
-use borrow.Author.Rules.{rules}
 use Prim.Native.Nat.{ℕ, ◌+◌, ◌-◌, ◌*◌, ◌≤◌}
-use mathlib.Core.Path.{◌≡◌, sym}
-use mathlib.Core.List.{[], ◌∷◌}
-use native.Mathlib.Omega.{arith}
-use lib.ListN.{length, get_or, take}
-use lib.Seq.{sets}
-use Rattle.paper.specs.Words.{flat}
+use mathlib.Core.Path.{◌≡◌}
+use lib.ListN.{length, get_or}
 use Rattle.paper.specs.Kinds.{shown_width}
 use Rattle.paper.specs.Replies.{shown_bytes}
 use Rattle.store.specs.Tails.{no_shown}
-use Rattle.wire.proofs.Laws.{runs}
-use Rattle.derivation.proofs.Pad.{is_long}
-use Rattle.session.proofs.Bytes.{Laid, laid_none, laid_more, take_table, length_shown}
+use Rattle.session.proofs.Bytes.{Laid}
 use Rattle.session.proofs.replies.put_handed.Given as goal
 
 abbrev pub invariant-loop-i : goal.invariant-loop-i

@@ -1,5 +1,4 @@
 -- Two lengths and two runs of serials from 6 on, and the head before them.
-use borrow.Author.Rules.{rules}
 use mathlib.Core.Path.{◌≡◌}
 use mathlib.Core.List.{[], ◌∷◌, ◌++◌}
 use Prim.Native.Nat.{◌*◌}
@@ -9,7 +8,6 @@ use Rattle.paper.specs.Kinds.{lists_kind, reply_to}
 use Rattle.paper.specs.Replies.{words}
 use Rattle.session.specs.Written.{numbers_from}
 use Rattle.session.proofs.Bytes.{run, run_on, framed_last, length_numbers, listed}
-
 use Rattle.session.proofs.replies.put_lists.Goals as goal
 
 pub returns : goal.returns

@@ -1,11 +1,9 @@
 -- Four runs of serials, one behind the other.
-use borrow.Author.Rules.{rules}
 use Prim.Native.Nat.{◌+◌}
 use mathlib.Core.List.{◌++◌}
 use Rattle.paper.specs.Replies.{words}
 use Rattle.session.specs.Written.{numbers_from}
 use Rattle.session.proofs.Bytes.{run, run_on, length_numbers}
-
 use Rattle.session.proofs.replies.put_members.Goals as goal
 
 pub returns : goal.returns

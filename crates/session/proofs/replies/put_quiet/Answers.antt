@@ -1,5 +1,4 @@
 -- The head and three counts of nothing are the framed empty tail.
-use borrow.Author.Rules.{rules}
 use Prim.Native.Nat.{ℕ}
 use mathlib.Core.List.{List, [], ◌∷◌, ◌++◌}
 use mathlib.Core.Path.{◌∙◌}
@@ -10,7 +9,6 @@ use Rattle.paper.specs.Numbers.{bytes16}
 use Rattle.paper.specs.Words.{flat}
 use Rattle.wire.proofs.Laws.{sets_over}
 use Rattle.session.proofs.Bytes.{run_on}
-
 use Rattle.session.proofs.replies.put_quiet.Goals as goal
 
 pub returns : goal.returns

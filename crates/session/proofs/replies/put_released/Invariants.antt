@@ -1,17 +1,9 @@
-use borrow.Author.Rules.{rules}
 use Prim.Native.Nat.{ℕ, ◌+◌, ◌-◌, ◌*◌, ◌≤◌}
-use mathlib.Core.Path.{◌≡◌, sym}
-use mathlib.Core.List.{[], ◌∷◌}
-use native.Mathlib.Omega.{arith}
-use lib.ListN.{length, get_or, take}
-use lib.Seq.{sets}
-use Rattle.paper.specs.declared.Surface.{Surface}
-use Rattle.paper.specs.Numbers.{bytes32, surface_nos}
-use Rattle.paper.specs.Replies.{words}
+use mathlib.Core.Path.{◌≡◌}
+use lib.ListN.{length, get_or}
+use Rattle.paper.specs.Numbers.{bytes32}
 use Rattle.store.specs.Tails.{no_surface}
-use Rattle.wire.proofs.Laws.{runs}
-use Rattle.derivation.proofs.Pad.{is_long}
-use Rattle.session.proofs.Bytes.{Laid, laid_none, laid_more, length_bytes32, words_front}
+use Rattle.session.proofs.Bytes.{Laid}
 use Rattle.session.proofs.replies.put_released.Given as goal
 
 abbrev pub invariant-loop-i : goal.invariant-loop-i

@@ -1,14 +1,13 @@
 -- Each turn writes one number of four bytes behind those before it.
 use borrow.Author.Rules.{rules}
-use Prim.Native.Nat.{ℕ, ◌+◌, ◌*◌, ◌≤◌, ◌-◌}
+use Prim.Native.Nat.{ℕ, ◌+◌}
 use mathlib.Core.Path.{◌≡◌}
 use native.Mathlib.Omega.{arith}
-use lib.ListN.{length, get_or}
+use lib.ListN.{get_or}
 use Rattle.paper.specs.Replies.{words}
 use Rattle.paper.specs.Numbers.{bytes32}
 use Rattle.derivation.specs.Lists.{blank_serial}
-use Rattle.session.proofs.Bytes.{Laid, laid_none, laid_more, length_bytes32}
-
+use Rattle.session.proofs.Bytes.{laid_none, laid_more, length_bytes32}
 use Rattle.session.proofs.replies.put_run.Goals as goal
 
 pub loop-i-init : goal.loop-i-init

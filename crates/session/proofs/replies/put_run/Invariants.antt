@@ -1,12 +1,8 @@
-use borrow.Author.Rules.{rules}
 use Prim.Native.Nat.{ℕ, ◌+◌, ◌*◌, ◌≤◌, ◌-◌}
-use mathlib.Core.Path.{◌≡◌}
-use native.Mathlib.Omega.{arith}
 use lib.ListN.{length, get_or}
-use Rattle.paper.specs.Replies.{words}
 use Rattle.paper.specs.Numbers.{bytes32}
 use Rattle.derivation.specs.Lists.{blank_serial}
-use Rattle.session.proofs.Bytes.{Laid, laid_none, laid_more, length_bytes32}
+use Rattle.session.proofs.Bytes.{Laid}
 use Rattle.session.proofs.replies.put_run.Given as goal
 
 abbrev pub invariant-loop-i : goal.invariant-loop-i

@@ -1,5 +1,4 @@
 -- Three counted runs, one behind the other.
-use borrow.Author.Rules.{rules}
 use mathlib.Core.Path.{◌≡◌, sym, ap, ◌∙◌}
 use mathlib.Core.List.{List, ◌∷◌, ◌++◌}
 use Prim.Native.Nat.{ℕ, ◌+◌, ◌*◌}
@@ -13,7 +12,6 @@ use Rattle.paper.specs.Replies.{shown_bytes, words}
 use Rattle.paper.specs.declared.Serial.{Serial}
 use Rattle.paper.specs.declared.Surface.{Surface}
 use Rattle.session.proofs.Bytes.{Run, run, run_on, tail_is, held_entries, held_words, length_shown}
-
 use Rattle.session.proofs.replies.put_tail.Goals as goal
 
 pub returns : goal.returns

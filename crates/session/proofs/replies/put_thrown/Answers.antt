@@ -1,6 +1,6 @@
 -- The count, and then each turn writes one number of four bytes behind those before it.
 use borrow.Author.Rules.{rules}
-use Prim.Native.Nat.{ℕ, ◌+◌, ◌-◌, ◌*◌, ◌≤◌}
+use Prim.Native.Nat.{ℕ}
 use mathlib.Core.Path.{◌≡◌, sym}
 use mathlib.Core.List.{[], ◌∷◌}
 use native.Mathlib.Omega.{arith}
@@ -12,14 +12,12 @@ use Rattle.paper.specs.Replies.{words}
 use Rattle.derivation.specs.Lists.{blank_serial}
 use Rattle.wire.proofs.Laws.{runs}
 use Rattle.derivation.proofs.Pad.{is_long}
-use Rattle.session.proofs.Bytes.{Laid, laid_none, laid_more, length_bytes32, words_front}
-
+use Rattle.session.proofs.Bytes.{laid_none, laid_more, length_bytes32, words_front}
 use Rattle.session.proofs.replies.put_thrown.Goals as goal
 
 pub loop-i-init : goal.loop-i-init
 loop-i-init c =
     let l : length c.put_u8-a.new.d ≡ length c.args.d.now = search rules in
-    
     (search rules, (c.requires.0.thrown.room, is_long c.requires.0.thrown, omega (arith, c.put_u8-a.ensures.0, l, c.requires.1)), laid_none bytes32 (λ (j : ℕ). (get_or c.args.m.thrown j blank_serial).0) c.put_u8-a.new.d c.put_u8-a.result)
 
 pub loop-i-preserved : goal.loop-i-preserved

@@ -6,7 +6,6 @@ use mir.Val.{of_z, to_z}
 use mir.Syntax.{w32}
 use Rattle.paper.specs.Numbers.{bytes32, signed32}
 use Rattle.session.proofs.Bytes.{run_on}
-
 use Rattle.session.proofs.replies.put_told.Goals as goal
 
 pub returns : goal.returns

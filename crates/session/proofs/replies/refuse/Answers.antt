@@ -1,9 +1,7 @@
 -- The head alone is the framed refusal.
-use borrow.Author.Rules.{rules}
 use native.Mathlib.Omega.{arith}
 use Rattle.session.specs.Numbered.{number_of}
 use Rattle.session.proofs.Bytes.{refused_says}
-
 use Rattle.session.proofs.replies.refuse.Goals as goal
 
 pub returns : goal.returns

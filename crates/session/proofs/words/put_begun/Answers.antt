@@ -5,7 +5,6 @@ use mir.ValLaws.{to_z-of_z}
 use mir.Val.{SFits, of_z}
 use mir.Syntax.{w32}
 use Rattle.session.proofs.Fronts.{front_begun, words_begun}
-
 use Rattle.session.proofs.words.put_begun.Goals as goal
 
 pub returns : goal.returns

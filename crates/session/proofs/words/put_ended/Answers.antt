@@ -1,7 +1,5 @@
 -- One word is written.
-use borrow.Author.Rules.{rules}
 use Rattle.session.proofs.Fronts.{front_ended, words_ended}
-
 use Rattle.session.proofs.words.put_ended.Goals as goal
 
 pub returns : goal.returns

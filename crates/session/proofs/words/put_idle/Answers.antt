@@ -5,7 +5,6 @@ use mir.ValLaws.{to_z-of_z}
 use mir.Val.{SFits, of_z}
 use mir.Syntax.{w32}
 use Rattle.session.proofs.Fronts.{front_none, front_tid0, words_none, words_tid0}
-
 use Rattle.session.proofs.words.put_idle.Goals as goal
 
 pub returns-in-Nothing : goal.returns-in-Nothing

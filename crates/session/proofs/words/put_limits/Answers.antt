@@ -1,7 +1,6 @@
 -- Each limit is written where it is read.
 use borrow.Author.Rules.{rules}
 use Rattle.session.proofs.Fronts.{front_limits, words_limits}
-
 use Rattle.session.proofs.words.put_limits.Goals as goal
 
 pub returns : goal.returns

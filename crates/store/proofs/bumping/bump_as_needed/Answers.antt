@@ -1,14 +1,13 @@
 -- What happened so far and the turns that are left are all the turns; a turn in which none is due or none waits is the
 -- last.
 use Prim.Native.Nat.{ℕ, ◌+◌, ◌-◌, ◌≤◌, ◌<◌}
-use mathlib.Core.Path.{◌≡◌, sym, ap, ◌∙◌}
+use mathlib.Core.Path.{◌≡◌, sym, ◌∙◌}
 use mathlib.Core.Bool.{Bool, true, false, not, ◌||◌}
 use mathlib.Core.List.{List, ◌++◌}
 use native.Mathlib.Omega.{arith}
 use lib.ListN.{length, set, length-set}
 use lib.IntN.{ℤ}
 use borrow.Author.Rules.{rules}
-use borrow.Author.Tests.{not-true, not-false}
 use Rattle.paper.specs.Output.{and_then, quieted, shown}
 use Rattle.paper.specs.State.{is_marked}
 use Rattle.paper.specs.declared.Picture.{Picture}
@@ -101,8 +100,9 @@ loop-i-preserved c =
     let e = c.in-At.is in
     let f : Left c.loop-i.places c.if-leaves.places c.loop-i.len c.if-leaves.len c.loop-i.released c.if-leaves.released c.leaves.result (place_at c.loop-i.places c.in-At.at) =
     elim c.if-leaves.branch [
-      then-leaves w ↦ (let y : length w.remove-places.result ≡ 16 = search rules in leaves_it v.0 v.1 v.2 e w.if-leaves.true w.remove-places.result y w.remove-places.ensures w.places-is w.len-is w.released-is)
-      | else-leaves w ↦ stays_there v.0 v.1 v.2 e w.if-leaves.false w.end_waiting.ensures w.places-is w.len-is w.released-is ] in
+      | then-leaves w ↦ (let y : length w.remove-places.result ≡ 16 = search rules in leaves_it v.0 v.1 v.2 e w.if-leaves.true w.remove-places.result y w.remove-places.ensures w.places-is w.len-is w.released-is)
+      | else-leaves w ↦ stays_there v.0 v.1 v.2 e w.if-leaves.false w.end_waiting.ensures w.places-is w.len-is w.released-is
+    ] in
     let t = turned v.0 v.1 v.2 e (sym c.needs_bumping.ensures ∙ c.if-not-needs_bumping.false) c.loop-i-test.true c.shown_of.ensures c.leaves.ensures f in
     (f.long, t.0, rw c.latency_of-latency.ensures at (c.find_lowest_poc_for_bumping-c.ensures))
 
@@ -112,15 +112,17 @@ returns c =
     let t = c.loop-i-test in
     let g : Gathers t.places t.len t.handed t.released (and_then (started_in c.args.ps c.args.n c.args.x) (turns_by c.args.rule)) =
     elim t.branch [
-      else-loop-i-test w ↦ rw (w.places-is, w.len-is, w.handed-is, w.released-is) (turned_all v.1 w.loop-i-test.false)
+      | else-loop-i-test w ↦ rw (w.places-is, w.len-is, w.handed-is, w.released-is) (turned_all v.1 w.loop-i-test.false)
       | then-loop-i-test+in_default w ↦ rw (w.places-is, w.len-is, w.handed-is, w.released-is) (turned_nothing v.1 v.2 w.in_default.is)
       | then-loop-i-test+in-At+then-not-needs_bumping w ↦ rw (w.places-is, w.len-is, w.handed-is, w.released-is) (turned_idle v.1 v.2 (sym w.needs_bumping.ensures ∙ w.if-not-needs_bumping.true))
       | then-loop-i-test+in-At+else-not-needs_bumping+then-not-is_due w ↦
-        (let e = w.in-At.is in
-        let f : Left c.loop-i.places w.if-leaves.places c.loop-i.len w.if-leaves.len c.loop-i.released w.if-leaves.released w.leaves.result (place_at c.loop-i.places w.in-At.at) =
-        elim w.if-leaves.branch [
-          then-leaves w' ↦ (let y : length w'.remove-places.result ≡ 16 = search rules in leaves_it v.0 v.1 v.2 e w'.if-leaves.true w'.remove-places.result y w'.remove-places.ensures w'.places-is w'.len-is w'.released-is)
-          | else-leaves w' ↦ stays_there v.0 v.1 v.2 e w'.if-leaves.false w'.end_waiting.ensures w'.places-is w'.len-is w'.released-is ] in
-        let y = turned v.0 v.1 v.2 e (sym w.needs_bumping.ensures ∙ w.if-not-needs_bumping.false) w.loop-i-test.true w.shown_of.ensures w.leaves.ensures f in
-        rw (w.places-is, w.len-is, w.handed-is, w.released-is) (turned_done y.0 y.1 (sym w.is_due.ensures ∙ w.if-not-is_due.true))) ] in
+          (let e = w.in-At.is in
+          let f : Left c.loop-i.places w.if-leaves.places c.loop-i.len w.if-leaves.len c.loop-i.released w.if-leaves.released w.leaves.result (place_at c.loop-i.places w.in-At.at) =
+          elim w.if-leaves.branch [
+            | then-leaves w' ↦ (let y : length w'.remove-places.result ≡ 16 = search rules in leaves_it v.0 v.1 v.2 e w'.if-leaves.true w'.remove-places.result y w'.remove-places.ensures w'.places-is w'.len-is w'.released-is)
+            | else-leaves w' ↦ stays_there v.0 v.1 v.2 e w'.if-leaves.false w'.end_waiting.ensures w'.places-is w'.len-is w'.released-is
+          ] in
+          let y = turned v.0 v.1 v.2 e (sym w.needs_bumping.ensures ∙ w.if-not-needs_bumping.false) w.loop-i-test.true w.shown_of.ensures w.leaves.ensures f in
+          rw (w.places-is, w.len-is, w.handed-is, w.released-is) (turned_done y.0 y.1 (sym w.is_due.ensures ∙ w.if-not-is_due.true)))
+    ] in
     gathers_moved g c.none.ensures c.of.ensures

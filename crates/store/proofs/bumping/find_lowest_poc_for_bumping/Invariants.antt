@@ -1,8 +1,5 @@
 use Prim.Native.Nat.{◌-◌, ◌≤◌}
-use mathlib.Core.Path.{◌≡◌}
-use native.Mathlib.Omega.{arith}
 use Rattle.store.specs.Bumps.{Scans}
-use Rattle.store.proofs.Scans.{scan_none, scan_more, scan_few}
 use Rattle.store.proofs.bumping.find_lowest_poc_for_bumping.Given as goal
 
 abbrev pub invariant-loop-i : goal.invariant-loop-i

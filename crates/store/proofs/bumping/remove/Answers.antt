@@ -1,11 +1,7 @@
 -- Those behind the place move up, one by one: each is read before it is written over.
-use Prim.Native.Nat.{◌-◌, ◌≤◌}
 use mathlib.Core.Path.{◌≡◌}
 use native.Mathlib.Omega.{arith}
-use lib.ListN.{length}
-use borrow.Author.Rules.{rules}
-use Rattle.store.proofs.Taken.{Moving, moving_none, moving_more, moving_all}
-
+use Rattle.store.proofs.Taken.{moving_all}
 use Rattle.store.proofs.bumping.remove.Goals as goal
 
 pub returns : goal.returns

@@ -5,7 +5,6 @@ use Rattle.store.specs.declared.pictures.Sought.{Sought}
 use Rattle.store.specs.Walks.{passing, found_of, member_of}
 use Rattle.store.specs.Runs.{member_for}
 use Rattle.store.proofs.Filling.{filled_none, filled_more}
-
 use Rattle.store.proofs.lent.find_members_in.Goals as goal
 
 pub loop-i-init : goal.loop-i-init

@@ -3,7 +3,6 @@ use mathlib.Core.Path.{sym, ◌∙◌}
 use native.Mathlib.Omega.{arith}
 use Rattle.store.specs.Walks.{passing}
 use Rattle.store.proofs.Walks.{found_here, found_later, found_end}
-
 use Rattle.store.proofs.lent.first_in.Goals as goal
 
 pub returns-then-passes : goal.returns-then-passes

@@ -6,7 +6,6 @@ use Rattle.store.specs.Walks.{blank}
 use Rattle.store.specs.Places.{place_at}
 use Rattle.store.specs.Runs.{members_at, marking, changed}
 use Rattle.store.proofs.Filling.{changed_none, changed_more, changed_same, marking_on, marking_off}
-
 use Rattle.store.proofs.lent.mark_where_in.Goals as goal
 use Rattle.store.proofs.lent.mark_where_in.Goals.{then-is_among-inside, else-is_among-inside}
 
@@ -19,7 +18,7 @@ loop-i-preserved c =
     let g = marking c.args.inside c.args.mark ns in
     let p = place_at c.loop-i.ps c.loop-i.i in
     let it : c.if-is_among-inside.ps ≡ changed blank g (c.loop-i.i + 1) c.args.ps.now = elim c.if-is_among-inside.branch [
-      then-is_among-inside w ↦ w.ps-is ∙ w.mark_at.ensures ∙ changed_more blank g c.args.ps.now c.loop-i.i c.loop-i.ps _ c.loop-i.invariant.1 (marking_on c.args.mark ns p c.args.inside _ c.is_among.ensures w.if-is_among-inside.true)
-    | else-is_among-inside w ↦ w.ps-is ∙ changed_same blank g c.args.ps.now c.loop-i.i c.loop-i.ps c.loop-i.invariant.1 (marking_off c.args.mark ns p c.args.inside _ c.is_among.ensures w.if-is_among-inside.false)
+      | then-is_among-inside w ↦ w.ps-is ∙ w.mark_at.ensures ∙ changed_more blank g c.args.ps.now c.loop-i.i c.loop-i.ps _ c.loop-i.invariant.1 (marking_on c.args.mark ns p c.args.inside _ c.is_among.ensures w.if-is_among-inside.true)
+      | else-is_among-inside w ↦ w.ps-is ∙ changed_same blank g c.args.ps.now c.loop-i.i c.loop-i.ps c.loop-i.invariant.1 (marking_off c.args.mark ns p c.args.inside _ c.is_among.ensures w.if-is_among-inside.false)
     ] in
     (omega arith, it)

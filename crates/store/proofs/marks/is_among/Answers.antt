@@ -1,15 +1,11 @@
 -- None of the serials passed is it, so the first that is ends the walk.
-use Prim.Native.Nat.{ℕ, ◌+◌, ◌≤◌, ◌<◌, ◌-◌}
-use mathlib.Core.Bool.{false}
-use mathlib.Core.Path.{◌≡◌, sym}
+use Prim.Native.Nat.{ℕ, ◌+◌, ◌<◌}
+use mathlib.Core.Path.{sym}
 use native.Mathlib.Omega.{arith}
 use borrow.Author.Tests.{eq-eqb, ne_eqb}
-use Rattle.paper.specs.Sets.{is_in}
 use Rattle.paper.specs.Numbers.{same_serial}
 use Rattle.derivation.specs.Lists.{member_at}
-use Rattle.store.specs.Runs.{members_at}
 use Rattle.store.proofs.Walks.{any_none, any_miss, any_hit}
-
 use Rattle.store.proofs.marks.is_among.Goals as goal
 
 pub loop-i-init : goal.loop-i-init
@@ -22,5 +18,4 @@ returns-then-x-y c =
 
 pub loop-i-preserved : goal.loop-i-preserved
 loop-i-preserved c =
-    
     (omega arith, any_miss (same_serial c.args.x) (λ (i : ℕ). member_at c.args.xs (c.args.from + i)) c.loop-i.i c.loop-i.invariant.1 (ne_eqb _ _ c.if-x-y.false))

@@ -1,13 +1,8 @@
-use Prim.Native.Nat.{ℕ, ◌+◌, ◌≤◌, ◌<◌, ◌-◌}
+use Prim.Native.Nat.{◌≤◌, ◌-◌}
 use mathlib.Core.Bool.{false}
-use mathlib.Core.Path.{◌≡◌, sym}
-use native.Mathlib.Omega.{arith}
-use borrow.Author.Tests.{eq-eqb, ne_eqb}
+use mathlib.Core.Path.{◌≡◌}
 use Rattle.paper.specs.Sets.{is_in}
-use Rattle.paper.specs.Numbers.{same_serial}
-use Rattle.derivation.specs.Lists.{member_at}
 use Rattle.store.specs.Runs.{members_at}
-use Rattle.store.proofs.Walks.{any_none, any_miss, any_hit}
 use Rattle.store.proofs.marks.is_among.Given as goal
 
 abbrev pub invariant-loop-i : goal.invariant-loop-i

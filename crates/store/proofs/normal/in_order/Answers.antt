@@ -1,8 +1,6 @@
 -- A used place is written as its picture is, any other as a blank one.
 use native.Mathlib.Omega.{arith}
-use Rattle.store.proofs.Deciding.{used_told, unused_told}
-use borrow.Author.Rules.{rules}
-
+use Rattle.store.proofs.Deciding.{unused_told}
 use Rattle.store.proofs.normal.in_order.Goals as goal
 
 pub returns-else-i-n : goal.returns-else-i-n

@@ -7,7 +7,6 @@ use Rattle.paper.specs.declared.Picture.{Picture}
 use Rattle.store.specs.StoreWords.{mark_word, flag_word}
 use Rattle.store.proofs.Deciding.{neat_told}
 use borrow.Author.Rules.{rules}
-
 use Rattle.store.proofs.normal.is_neat.Goals as goal
 
 pub returns : goal.returns

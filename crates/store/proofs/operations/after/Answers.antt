@@ -1,12 +1,7 @@
 -- Each turn puts one picture more behind those handed out before.
-use Prim.Native.Nat.{◌≤◌, ◌-◌}
-use mathlib.Core.Path.{◌≡◌, refl}
 use native.Mathlib.Omega.{arith}
-use Rattle.derivation.specs.Pad.{used}
 use Rattle.derivation.proofs.Pad.{is_long}
-use Rattle.store.specs.Tails.{no_shown}
-use Rattle.store.proofs.Gone.{Joined, joined_none, joined_more}
-
+use Rattle.store.proofs.Gone.{joined_none, joined_more}
 use Rattle.store.proofs.operations.after.Goals as goal
 
 pub loop-i-init : goal.loop-i-init

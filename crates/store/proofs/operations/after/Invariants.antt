@@ -1,10 +1,7 @@
 use Prim.Native.Nat.{◌≤◌, ◌-◌}
-use mathlib.Core.Path.{◌≡◌, refl}
-use native.Mathlib.Omega.{arith}
 use Rattle.derivation.specs.Pad.{used}
-use Rattle.derivation.proofs.Pad.{is_long}
 use Rattle.store.specs.Tails.{no_shown}
-use Rattle.store.proofs.Gone.{Joined, joined_none, joined_more}
+use Rattle.store.proofs.Gone.{Joined}
 use Rattle.store.proofs.operations.after.Given as goal
 
 abbrev pub invariant-loop-i : goal.invariant-loop-i

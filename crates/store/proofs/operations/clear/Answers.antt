@@ -1,8 +1,6 @@
 -- Those that wait are thrown away, and all are released.
 use native.Mathlib.Omega.{arith}
 use Rattle.store.proofs.Ends.{moved_good, throws_holds, clears}
-use borrow.Author.Rules.{rules}
-
 use Rattle.store.proofs.operations.clear.Goals as goal
 
 pub release_all-requires : goal.release_all-requires

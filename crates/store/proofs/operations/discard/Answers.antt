@@ -5,8 +5,6 @@ use Rattle.paper.specs.Output.{cleared}
 use Rattle.paper.specs.Calls.{discarded}
 use Rattle.store.specs.Places.{front}
 use Rattle.store.proofs.Ends.{clear_room, holds_then, drops_one, discard_idle, discard_is}
-use borrow.Author.Rules.{rules}
-
 use Rattle.store.proofs.operations.discard.Goals as goal
 
 pub clear-requires : goal.clear-requires

@@ -1,7 +1,5 @@
 -- The store is emptied, and nothing had gone before.
 use Rattle.store.proofs.Ends.{empty_room, empties_still}
-use borrow.Author.Rules.{rules}
-
 use Rattle.store.proofs.operations.drain.Goals as goal
 
 pub empty_out-requires : goal.empty_out-requires

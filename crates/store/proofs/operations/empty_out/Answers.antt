@@ -2,8 +2,6 @@
 use Rattle.store.specs.declared.bumping.Rule.TheVariants.{All}
 use Rattle.store.proofs.Rounds.{moved_room}
 use Rattle.store.proofs.Ends.{moved_good, empties}
-use borrow.Author.Rules.{rules}
-
 use Rattle.store.proofs.operations.empty_out.Goals as goal
 
 pub release_all-requires : goal.release_all-requires

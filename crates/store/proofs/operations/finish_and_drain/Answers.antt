@@ -1,7 +1,5 @@
 -- What the emptying hands out stands behind what was handed out before.
 use Rattle.store.proofs.Ends.{rest_room, after_room, drains}
-use borrow.Author.Rules.{rules}
-
 use Rattle.store.proofs.operations.finish_and_drain.Goals as goal
 
 pub empty_out-requires : goal.empty_out-requires

@@ -4,8 +4,6 @@ use mathlib.Core.Path.{subst}
 use native.Mathlib.Omega.{arith}
 use Rattle.store.specs.Tails.{HoldsMoved}
 use Rattle.store.proofs.Ends.{empty_room, finishes}
-use borrow.Author.Rules.{rules}
-
 use Rattle.store.proofs.operations.finish_picture.Goals as goal
 
 pub bump_as_needed-requires : goal.bump_as_needed-requires

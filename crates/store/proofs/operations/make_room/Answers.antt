@@ -4,22 +4,18 @@ use native.Mathlib.Omega.{arith}
 use Rattle.derivation.proofs.Pad.{is_good}
 use Rattle.store.specs.Tails.{HoldsMoved}
 use Rattle.store.proofs.Ends.{removes_room, makes_room, keeps_room}
-use borrow.Author.Rules.{rules}
-
 use Rattle.store.proofs.operations.make_room.Goals as goal
 
 pub bump_as_needed-requires : goal.bump_as_needed-requires
-bump_as_needed-requires c =
-     (
-      is_good c.remove_unused-f.ensures.freed,
-      omega (arith, c.remove_unused-f.ensures.few, c.requires),
-      removes_room c.args.s.places c.args.s.len c.remove_unused-f.result.places c.remove_unused-f.result.len c.remove_unused-f.ensures.freed c.remove_unused-f.ensures.left c.requires,
-      rw c.latency_of.ensures at c.find_lowest_poc_for_bumping-c.ensures,
-    )
+bump_as_needed-requires c = (
+  is_good c.remove_unused-f.ensures.freed,
+  omega (arith, c.remove_unused-f.ensures.few, c.requires),
+  removes_room c.args.s.places c.args.s.len c.remove_unused-f.result.places c.remove_unused-f.result.len c.remove_unused-f.ensures.freed c.remove_unused-f.ensures.left c.requires,
+  rw c.latency_of.ensures at c.find_lowest_poc_for_bumping-c.ensures,
+)
 
 pub untouched-requires : goal.untouched-requires
 untouched-requires c =
-    
     (is_good c.remove_unused-f.ensures.freed, omega (arith, c.remove_unused-f.ensures.few, c.requires))
 
 pub returns-then-is_due : goal.returns-then-is_due

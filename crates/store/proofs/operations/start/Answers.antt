@@ -3,8 +3,6 @@ use mathlib.Core.Path.{subst}
 use Rattle.derivation.proofs.Pad.{is_good}
 use Rattle.store.specs.Tails.{HoldsMoved}
 use Rattle.store.proofs.Ends.{first_still}
-use borrow.Author.Rules.{rules}
-
 use Rattle.store.proofs.operations.start.Goals as goal
 
 pub untouched-requires : goal.untouched-requires

@@ -5,8 +5,6 @@ use native.Mathlib.Omega.{arith}
 use Rattle.paper.specs.Output.{cleared}
 use Rattle.store.specs.Places.{front}
 use Rattle.store.proofs.Ends.{empty_room, clear_room, holds_then, empties_still, then_clear, then_empty, then_remove}
-use borrow.Author.Rules.{rules}
-
 use Rattle.store.proofs.operations.update_dpb_before_decoding.Goals as goal
 
 pub returns-then-not-starts : goal.returns-then-not-starts

@@ -1,15 +1,11 @@
 use Prim.Native.Nat.{◌≤◌, ◌-◌}
 use mathlib.Core.Bool.{true}
-use mathlib.Core.Path.{◌≡◌, refl, ap}
-use native.Mathlib.Omega.{arith}
-use mathlib.Core.List.{List}
-use Rattle.paper.specs.declared.Picture.{Picture}
-use Rattle.store.specs.Places.{place_at, front}
+use mathlib.Core.Path.{◌≡◌}
 use Rattle.derivation.specs.Pad.{Padded}
 use Rattle.derivation.specs.Lists.{blank_serial}
 use Rattle.store.specs.Walks.{surface_of}
 use Rattle.store.specs.Tails.{no_shown, no_surface, tail_in, unused}
-use Rattle.store.proofs.Gone.{Pushed, pushed_none, pushed_take, keep_everything}
+use Rattle.store.proofs.Gone.{Pushed}
 use Rattle.store.proofs.removal.release_all.Given as goal
 
 abbrev pub invariant-loop-i : goal.invariant-loop-i

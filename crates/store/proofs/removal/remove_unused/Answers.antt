@@ -1,18 +1,13 @@
 -- Each turn moves a picture up or puts its surface behind the others, and the places from it on are as they were.
-use Prim.Native.Nat.{◌≤◌, ◌-◌}
-use mathlib.Core.Bool.{not, false}
-use mathlib.Core.List.{[]}
+use mathlib.Core.Bool.{not}
 use mathlib.Core.Path.{◌≡◌, sym, ap, ◌∙◌}
 use native.Mathlib.Omega.{arith}
-use borrow.Author.Rules.{rules}
-use lib.ListN.{length, length-map}
+use lib.ListN.{length}
 use Rattle.paper.specs.Output.{in_use}
 use Rattle.paper.specs.declared.Picture.{Picture}
 use Rattle.store.specs.Walks.{surface_of}
 use Rattle.store.specs.Places.{place_at}
-use Rattle.store.specs.Tails.{no_surface, unused}
-use Rattle.store.proofs.Gone.{Kept, kept_none, kept_is, kept_take, kept_pass, Pushed, pushed_first, pushed_take, pushed_pass}
-
+use Rattle.store.proofs.Gone.{kept_none, kept_is, kept_take, kept_pass, pushed_first, pushed_take, pushed_pass}
 use Rattle.store.proofs.removal.remove_unused.Goals as goal
 use Rattle.store.proofs.removal.remove_unused.Goals.{then-is_used, else-is_used}
 
@@ -27,5 +22,6 @@ loop-i-preserved c =
     let x = kept_is c.loop-i.invariant.1 in
     let y = ap (λ (q : Picture). not (in_use q)) (sym x) ∙ ap not u in
     elim c.if-is_used.branch [
-      then-is_used w ↦ rw (w.places-is, w.released-is, w.k-is) (omega arith, kept_take c.loop-i.invariant.1 (u ∙ w.if-is_used.true) (omega arith), pushed_pass c.loop-i.invariant.2 (y ∙ ap not w.if-is_used.true))
-      | else-is_used w ↦ rw (w.places-is, w.released-is, w.k-is) (omega arith, kept_pass c.loop-i.invariant.1 (u ∙ w.if-is_used.false), pushed_take c.loop-i.invariant.2 _ (ap surface_of x) (omega (arith, c.loop-i.invariant.2.few)) (y ∙ ap not w.if-is_used.false)) ]
+      | then-is_used w ↦ rw (w.places-is, w.released-is, w.k-is) (omega arith, kept_take c.loop-i.invariant.1 (u ∙ w.if-is_used.true) (omega arith), pushed_pass c.loop-i.invariant.2 (y ∙ ap not w.if-is_used.true))
+      | else-is_used w ↦ rw (w.places-is, w.released-is, w.k-is) (omega arith, kept_pass c.loop-i.invariant.1 (u ∙ w.if-is_used.false), pushed_take c.loop-i.invariant.2 _ (ap surface_of x) (omega (arith, c.loop-i.invariant.2.few)) (y ∙ ap not w.if-is_used.false))
+    ]

@@ -1,15 +1,10 @@
 use Prim.Native.Nat.{◌≤◌, ◌-◌}
-use mathlib.Core.Logic.{⊎_elim}
-use mathlib.Core.List.{List}
-use mathlib.Core.Path.{◌≡◌, refl, sym, ap, ◌∙◌}
-use native.Mathlib.Omega.{arith}
-use Rattle.paper.specs.declared.Picture.{Picture}
+use mathlib.Core.Path.{◌≡◌}
 use Rattle.derivation.specs.Pad.{Padded}
 use Rattle.derivation.specs.Lists.{blank_serial}
 use Rattle.store.specs.Walks.{serial_of}
-use Rattle.store.specs.Places.{place_at}
 use Rattle.store.specs.Tails.{no_shown, no_surface, tail_in, waits}
-use Rattle.store.proofs.Gone.{Pushed, pushed_none, pushed_take, pushed_pass}
+use Rattle.store.proofs.Gone.{Pushed}
 use Rattle.store.proofs.removal.throw_waiting.Given as goal
 
 abbrev pub invariant-loop-i : goal.invariant-loop-i

@@ -1,14 +1,7 @@
-use Prim.Native.Nat.{◌≤◌, ◌<◌, ◌-◌}
-use mathlib.Core.Bool.{true, false}
-use mathlib.Core.Path.{◌≡◌, refl, sym, ap, ◌∙◌}
-use native.Mathlib.Omega.{arith}
-use lib.ListN.{length, take, drop, length-take}
-use lib.Seq.{get_or-take}
-use borrow.Author.Rules.{rules}
-use Rattle.paper.specs.declared.Found.TheVariants.{The}
-use Rattle.store.specs.Walks.{passing, found_of, blank}
-use Rattle.store.specs.Places.{place_at}
-use Rattle.store.proofs.Walks.{found_here, found_later, found_end}
+use Prim.Native.Nat.{◌≤◌, ◌-◌}
+use mathlib.Core.Path.{◌≡◌}
+use lib.ListN.{take, drop}
+use Rattle.store.specs.Walks.{passing, found_of}
 use Rattle.store.proofs.searches.find_first.Given as goal
 
 abbrev pub invariant-loop-i : goal.invariant-loop-i

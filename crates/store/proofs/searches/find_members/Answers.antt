@@ -1,5 +1,5 @@
 -- Each place walked over holds what its entry finds; every other is as it was.
-use Prim.Native.Nat.{◌+◌, ◌≤◌, ◌-◌}
+use Prim.Native.Nat.{◌+◌}
 use mathlib.Core.Bool.{Bool}
 use mathlib.Core.Path.{◌≡◌, ap, ◌∙◌}
 use native.Mathlib.Omega.{arith}
@@ -12,9 +12,8 @@ use borrow.Author.Rules.{rules}
 use Rattle.paper.specs.Numbers.{bit}
 use Rattle.store.specs.declared.pictures.Sought.{Sought}
 use Rattle.store.specs.Walks.{passing, sought_for, found_of, member_of}
-use Rattle.store.specs.Runs.{member_for, filled}
+use Rattle.store.specs.Runs.{member_for}
 use Rattle.store.proofs.Filling.{filled_none, filled_more}
-
 use Rattle.store.proofs.searches.find_members.Goals as goal
 
 pub loop-i-init : goal.loop-i-init

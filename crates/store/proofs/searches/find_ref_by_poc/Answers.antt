@@ -1,12 +1,11 @@
 -- The walk of this test over the used places; a POC in an i32 is read back from its bits.
-use mathlib.Core.Path.{◌≡◌, ◌∙◌, sym}
-use lib.ListN.{length, length-map}
+use mathlib.Core.Path.{◌≡◌, ◌∙◌}
+use lib.ListN.{length}
 use mir.Syntax.{w32}
 use mir.Val.{SFits}
 use mir.ValLaws.{to_z-of_z}
 use borrow.Author.Rules.{rules}
 use Rattle.store.proofs.Walks.{stored_take}
-
 use Rattle.store.proofs.searches.find_ref_by_poc.Goals as goal
 
 pub returns : goal.returns

@@ -1,28 +1,23 @@
 -- What each entry found is what the paper's searches find, and the walks over neg, pos and lt ones put it into the two
 -- runs, one behind the other.
 use Prim.Native.Nat.{◌+◌, ◌≤◌, min}
-use mathlib.Core.Path.{◌≡◌, sym, ◌∙◌}
+use mathlib.Core.Path.{◌≡◌}
 use native.Mathlib.Omega.{arith}
-use lib.ListN.{length, length-map}
-use borrow.Author.Rules.{rules}
+use lib.ListN.{length}
 use Rattle.store.specs.Runs.{used_at, unused_at}
 use Rattle.store.proofs.MarkLaws.{runs_good, runs_first, derives}
-
 use Rattle.store.proofs.sets.derive_and_mark_rps.Goals as goal
 
 pub split-x-requires : goal.split-x-requires
 split-x-requires c =
-    
     (runs_good c.no_runs.ensures, omega arith, omega arith)
 
 pub split-y-requires : goal.split-y-requires
 split-y-requires c =
-    
     (runs_good c.split-x.ensures.holds, omega (arith, c.requires), omega (arith, c.requires, c.split-x.ensures.few.0))
 
 pub split-z-requires : goal.split-z-requires
 split-z-requires c =
-    
     (runs_good c.split-y.ensures.holds, omega (arith, c.requires), omega (arith, c.requires, c.split-x.ensures.few.0, c.split-y.ensures.few.0))
 
 pub returns : goal.returns

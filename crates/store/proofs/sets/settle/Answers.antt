@@ -1,5 +1,4 @@
 -- The four steps, one after the other, are those of the definition.
-use borrow.Author.Rules.{rules}
 
 use Rattle.store.proofs.sets.settle.Goals as goal
 

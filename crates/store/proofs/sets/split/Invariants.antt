@@ -1,9 +1,5 @@
-use Prim.Native.Nat.{◌+◌, ◌≤◌, ◌<◌, ◌-◌}
-use mathlib.Core.Logic.{⊎_elim}
-use mathlib.Core.Path.{◌≡◌, sym, ◌∙◌}
-use native.Mathlib.Omega.{arith}
-use borrow.Author.Rules.{rules}
-use Rattle.store.proofs.Filling.{Parted, parted_none, parted_used, parted_rest}
+use Prim.Native.Nat.{◌≤◌, ◌-◌}
+use Rattle.store.proofs.Filling.{Parted}
 use Rattle.store.proofs.sets.split.Given as goal
 
 abbrev pub invariant-loop-i : goal.invariant-loop-i

@@ -1,8 +1,6 @@
 -- Each turn blanks one place, the last of the first n at first.
-use mathlib.Core.Path.{◌≡◌}
 use native.Mathlib.Omega.{arith}
-use Rattle.store.proofs.Tidy.{Blanks, blanks_none, blanks_more}
-
+use Rattle.store.proofs.Tidy.{blanks_more}
 use Rattle.store.proofs.words.blank_from.Goals as goal
 
 pub loop-i-preserved : goal.loop-i-preserved

@@ -1,6 +1,4 @@
-use mathlib.Core.Path.{◌≡◌}
-use native.Mathlib.Omega.{arith}
-use Rattle.store.proofs.Tidy.{Blanks, blanks_none, blanks_more}
+use Rattle.store.proofs.Tidy.{Blanks}
 use Rattle.store.proofs.words.blank_from.Given as goal
 
 abbrev pub invariant-loop-i : goal.invariant-loop-i

@@ -12,8 +12,6 @@ use Rattle.store.specs.StoreWords.{stored}
 use Rattle.store.specs.Places.{front, stored_in}
 use Rattle.store.specs.Runs.{wishes_in, wishes_within, Derives}
 use Rattle.store.proofs.Fetched.{unmarked_read}
-use borrow.Author.Rules.{rules}
-
 use Rattle.store.proofs.words.derive_and_mark_rps.Goals as goal
 
 pub returns : goal.returns

@@ -5,8 +5,6 @@ use Rattle.paper.specs.Output.{emptied}
 use Rattle.paper.specs.declared.Picture.{Picture}
 use Rattle.store.specs.Tails.{HoldsMoved}
 use Rattle.store.proofs.Fetched.{leaves, as_it_is}
-use borrow.Author.Rules.{rules}
-
 use Rattle.store.proofs.words.drain.Goals as goal
 
 pub returns : goal.returns

@@ -9,8 +9,6 @@ use Rattle.paper.specs.declared.Picture.{Picture}
 use Rattle.store.specs.StoreWords.{stored}
 use Rattle.store.specs.Tails.{HoldsMoved}
 use Rattle.store.proofs.Fetched.{leaves, roomy_read}
-use borrow.Author.Rules.{rules}
-
 use Rattle.store.proofs.words.finish_and_drain.Goals as goal
 
 pub returns : goal.returns

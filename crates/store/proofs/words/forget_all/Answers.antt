@@ -1,12 +1,9 @@
 -- Words that are all 0 are a store in normal form, and an empty store is written over them.
 use mathlib.Core.Path.{ap, ◌∙◌}
-use native.Mathlib.Omega.{arith}
 use Rattle.paper.specs.Words.{table}
 use Rattle.store.specs.Places.{front}
 use Rattle.store.specs.declared.Store.{Store}
 use Rattle.store.proofs.Tidy.{zero_normal}
-use borrow.Author.Rules.{rules}
-
 use Rattle.store.proofs.words.forget_all.Goals as goal
 
 pub returns : goal.returns

@@ -1,14 +1,10 @@
 -- None of the pictures passed holds it, so the first that does ends the walk.
-use Prim.Native.Nat.{◌≤◌, ◌<◌, ◌-◌}
-use mathlib.Core.Bool.{false}
-use mathlib.Core.Path.{◌≡◌, sym, ap, ◌∙◌}
+use Prim.Native.Nat.{◌<◌}
+use mathlib.Core.Path.{sym, ap, ◌∙◌}
 use native.Mathlib.Omega.{arith}
-use borrow.Author.Rules.{rules}
-use Rattle.paper.specs.Words.{any_b}
 use Rattle.paper.specs.Step.{held_by}
-use Rattle.store.specs.StoreWords.{picture_at, pictures, count_in}
+use Rattle.store.specs.StoreWords.{picture_at, count_in}
 use Rattle.store.proofs.Walks.{any_none, any_miss, any_hit}
-
 use Rattle.store.proofs.words.holds_surface.Goals as goal
 
 pub loop-i-init : goal.loop-i-init

@@ -1,12 +1,9 @@
-use Prim.Native.Nat.{◌≤◌, ◌<◌, ◌-◌}
+use Prim.Native.Nat.{◌≤◌, ◌-◌}
 use mathlib.Core.Bool.{false}
-use mathlib.Core.Path.{◌≡◌, sym, ap, ◌∙◌}
-use native.Mathlib.Omega.{arith}
-use borrow.Author.Rules.{rules}
+use mathlib.Core.Path.{◌≡◌}
 use Rattle.paper.specs.Words.{any_b}
 use Rattle.paper.specs.Step.{held_by}
-use Rattle.store.specs.StoreWords.{picture_at, pictures, count_in}
-use Rattle.store.proofs.Walks.{any_none, any_miss, any_hit}
+use Rattle.store.specs.StoreWords.{pictures}
 use Rattle.store.proofs.words.holds_surface.Given as goal
 
 abbrev pub invariant-loop-i : goal.invariant-loop-i

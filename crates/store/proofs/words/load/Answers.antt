@@ -1,12 +1,11 @@
 -- Each turn reads one picture more, changed.
-use Prim.Native.Nat.{ℕ, ◌≤◌, ◌-◌}
-use mathlib.Core.Path.{◌≡◌, refl, ap, ◌∙◌}
+use Prim.Native.Nat.{ℕ}
+use mathlib.Core.Path.{◌≡◌, ap, ◌∙◌}
 use mathlib.Core.List.{map}
 use native.Mathlib.Omega.{arith}
 use Rattle.store.specs.Walks.{change_by}
-use Rattle.store.specs.StoreWords.{picture_at, pictures}
-use Rattle.store.proofs.Saving.{Loaded, loaded_none, loaded_more, loaded_all}
-
+use Rattle.store.specs.StoreWords.{pictures}
+use Rattle.store.proofs.Saving.{loaded_all}
 use Rattle.store.proofs.words.load.Goals as goal
 
 pub returns : goal.returns

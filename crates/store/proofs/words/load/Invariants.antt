@@ -1,10 +1,6 @@
-use Prim.Native.Nat.{ℕ, ◌≤◌, ◌-◌}
-use mathlib.Core.Path.{◌≡◌, refl, ap, ◌∙◌}
-use mathlib.Core.List.{map}
-use native.Mathlib.Omega.{arith}
+use Prim.Native.Nat.{◌≤◌, ◌-◌}
 use Rattle.store.specs.Walks.{change_by}
-use Rattle.store.specs.StoreWords.{picture_at, pictures}
-use Rattle.store.proofs.Saving.{Loaded, loaded_none, loaded_more, loaded_all}
+use Rattle.store.proofs.Saving.{Loaded}
 use Rattle.store.proofs.words.load.Given as goal
 
 abbrev pub invariant-loop-i : goal.invariant-loop-i

@@ -4,8 +4,6 @@ use mir.Val.{to_z, of_z}
 use mir.Syntax.{w32}
 use mir.Facts.{to_z-of_z}
 use Rattle.store.specs.StoreWords.{picture_at}
-use borrow.Author.Rules.{rules}
-
 use Rattle.store.proofs.words.picture_at.Goals as goal
 
 pub returns : goal.returns

@@ -7,7 +7,6 @@ use mir.Syntax.{w32}
 use Rattle.store.proofs.StoreWords.{puts_words, own_words, picture_spells}
 use Rattle.store.specs.StoreWords.{mark_word, flag_word}
 use borrow.Author.Rules.{rules}
-
 use Rattle.store.proofs.words.put_picture.Goals as goal
 
 pub returns : goal.returns

@@ -7,8 +7,6 @@ use lib.ListN.{length}
 use Rattle.paper.proofs.Fits.{table_length}
 use Rattle.store.specs.StoreWords.{picture_at, stored, count_in}
 use Rattle.store.proofs.StoreWords.{full_is}
-use borrow.Author.Rules.{rules}
-
 use Rattle.store.proofs.words.room_in.Goals as goal
 
 pub returns-then-most-n : goal.returns-then-most-n

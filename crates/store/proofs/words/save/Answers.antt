@@ -1,9 +1,7 @@
 -- Each turn writes one picture more; then the places behind them are blanked, and their number is written.
-use Prim.Native.Nat.{◌≤◌, ◌-◌}
 use mathlib.Core.Path.{◌≡◌, ◌∙◌}
 use native.Mathlib.Omega.{arith}
-use Rattle.store.proofs.Saving.{Saved, saved_none, saved_more, saved_all, saved_tidy}
-
+use Rattle.store.proofs.Saving.{saved_all, saved_tidy}
 use Rattle.store.proofs.words.save.Goals as goal
 
 pub returns : goal.returns

@@ -1,7 +1,5 @@
 use Prim.Native.Nat.{◌≤◌, ◌-◌}
-use mathlib.Core.Path.{◌≡◌, ◌∙◌}
-use native.Mathlib.Omega.{arith}
-use Rattle.store.proofs.Saving.{Saved, saved_none, saved_more, saved_all, saved_tidy}
+use Rattle.store.proofs.Saving.{Saved}
 use Rattle.store.proofs.words.save.Given as goal
 
 abbrev pub invariant-loop-i : goal.invariant-loop-i

@@ -4,8 +4,6 @@ use Prim.Native.Nat.{◌≤◌}
 use lib.ListN.{length}
 use Rattle.store.proofs.StoreWords.{used_is}
 use Rattle.store.proofs.Tidy.{used_normal}
-use borrow.Author.Rules.{rules}
-
 use Rattle.store.proofs.words.set_used.Goals as goal
 
 pub returns : goal.returns

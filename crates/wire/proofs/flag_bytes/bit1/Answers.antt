@@ -5,7 +5,6 @@ use lib.Dec.{eqb}
 use lib.Bits.{bit_and}
 use Rattle.paper.specs.Numbers.{bit}
 use Rattle.wire.proofs.Below.{bytes_agree}
-
 use Rattle.wire.proofs.flag_bytes.bit1.Goals as goal
 
 pub returns : goal.returns
