@@ -1,0 +1,15 @@
+-- What is taken lies within what is held, so the rest can be moved to the start. Where nothing is taken no exchange is
+-- whole.
+use Rattle.ledger.proofs.Turning.{starved}
+use Rattle.ledger.proofs.Taking.{none_taken, takes}
+use Rattle.ledger.proofs.turn.Goals as goal
+
+pub returns-then-taken-eq0 : goal.returns-then-taken-eq0
+returns-then-taken-eq0 g c =
+    let z = none_taken c.args.s c.args.records.now c.args.replies.now c.requires.0 c.requires.1 c.hear_all-p.ensures c.if-taken-eq0.true in
+    starved c.args.s c.args.records.now c.args.replies.now c.requires.0 c.requires.1 z c.starve.ensures
+
+pub returns : goal.returns
+returns g c =
+    rw (c.plus.ensures, c.without-x.ensures, c.without-y.ensures)
+    (takes c.args.s c.args.records.now c.args.replies.now c.requires.0 c.requires.1 c.hear_all-p.ensures c.shift.ensures c.shift-2.ensures c.if-taken-eq0.false)
