@@ -13,7 +13,7 @@ if [ -z "${PROGRAM:-}" ]; then
   "$root/run" replay </dev/null
   # what ./run starts, without its check at each of some thousand starts
   . "$root/tools/kit.sh"
-  PROGRAM="$emulator $loader --library-path $toolchain/lib $root/target/bin/replay"
+  PROGRAM="$emulator $root/crates/replay/out/replay"
 fi
 python3 "$here/judge.py" "$judge" --program "$PROGRAM" --scale "${SCALE:-1}"
 python3 "$here/differences.py" "$judge"

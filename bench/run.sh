@@ -55,28 +55,24 @@ loop() {
     mkdir -p "$folder"
     cp "$proof" "$folder/Proof.antt"
   done
-  logged "$crate" "$repo" rt staticlib "$crate"
+  logged "$crate" "$repo/crates/$crate" rt lib
   "$cxx" -O2 -static -no-pie -fno-exceptions -fno-rtti "$@" \
-    "$here/driver.cpp" "$repo/target/staticlib/lib$crate.a" -o "$out/$crate"
+    "$here/driver.cpp" "$repo/crates/$crate/out/lib$crate.a" -o "$out/$crate"
 }
 
 # The proved libraries: the crates of this repository and the loops of speed/ and pooled/, in a repository of their own,
-# since rt takes no Rattle file outside a crate. What is proved already in target/ is not proved again. Each loop has a
+# since rt takes no Rattle file outside a crate. What is proved already is not proved again. Each loop has a
 # library of its own: in one, `session::step_at` would have two callers, and the compiler would make other code of it.
 ours() {
   repo=$out/repo
-  mkdir -p "$repo/crates" "$repo/target"
+  mkdir -p "$repo/crates"
   grep -v '^replay:' "$root/crates.txt" >"$repo/crates.txt"
-  for crate in $(cut -d: -f1 "$repo/crates.txt"); do ln -sfn "../../../../crates/$crate" "$repo/crates/$crate"; done
-  echo 'speed: paper wire format derivation store session' >>"$repo/crates.txt"
-  echo 'pooled: paper wire format derivation store session pool' >>"$repo/crates.txt"
-  stamps=$root/target/stamp
-  if [ -d "$stamps" ] && ! diff -rq -x speed -x pooled -x replay "$stamps" "$repo/target/stamp" >/dev/null 2>&1; then
-    for made in rlib stamp inc log; do
-      rm -rf "$repo/target/$made"
-      if [ -d "$root/target/$made" ]; then cp -r "$root/target/$made" "$repo/target/"; fi
-    done
-  fi
+  for crate in $(cut -d: -f1 "$repo/crates.txt" | cut -d' ' -f1); do
+    rm -rf "$repo/crates/$crate"
+    cp -r "$root/crates/$crate" "$repo/crates/$crate"
+  done
+  echo 'speed staticlib: paper wire format derivation store session' >>"$repo/crates.txt"
+  echo 'pooled staticlib: paper wire format derivation store session pool' >>"$repo/crates.txt"
   loop speed
   loop pooled -DPOOLED
 }
@@ -123,8 +119,8 @@ rust() {
 
 # The program, proved and built.
 replay() {
-  logged replay "$root" rt check replay
-  cp "$root/target/bin/replay" "$out/replay"
+  logged replay "$root/crates/replay" rt run </dev/null
+  cp "$root/crates/replay/out/replay" "$out/replay"
 }
 
 plugin

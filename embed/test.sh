@@ -99,9 +99,9 @@ find_rust() {
 
 # ---- the archive, and what is expected
 quietly python3 embed/calls.py "$work/calls"
-echo "embed: rt staticlib embed, which proves what has changed"
-quietly rt staticlib embed
-archive=$root/target/staticlib
+echo "embed: rt lib in crates/embed, which proves what has changed"
+archive=$root/crates/embed/out
+(cd crates/embed && quietly rt lib)
 
 # ---- C, for this machine: trusshemp_wire.h
 wire() {

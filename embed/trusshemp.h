@@ -1,7 +1,7 @@
 /* Trusshemp: an H.265 picture session (reference marks, sets, lists, output order) in memory that the host lends, and a
  * pool that chooses the surfaces of one. docs/01-scope.md has the records and the replies, and the refusal numbers, and
- * docs/02-change-requests.md, Item 10, the pool. Build the archive with `rt staticlib embed` and link
- * target/staticlib/libembed.a, for x86-64 Linux. trusshemp_wire.h writes the records and reads the replies.
+ * docs/02-change-requests.md, Item 10, the pool. Build the archive with `rt lib` in crates/embed and link
+ * crates/embed/out/libembed.a, for x86-64 Linux. trusshemp_wire.h writes the records and reads the replies.
  *
  * The functions are proved (crates/embed): they end, they touch nothing but what they are lent, and any bytes get an
  * answer, also a session or a pool whose words hold garbage. What a host must see to, for C cannot: every pointer is to

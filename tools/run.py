@@ -73,8 +73,8 @@ def version():
 
 
 def starter():
-    """The words that start a program of the kit on this machine: tools/kit.sh finds them."""
-    words = '. "$0"; printf "%s\\0" ${emulator:+"$emulator"} "$loader" --library-path "$toolchain/lib"'
+    """The words in front of a program that the kit built, on this machine: none, or an emulator (tools/kit.sh)."""
+    words = '. "$0"; [ -z "$emulator" ] || printf "%s\\0" "$emulator"'
     found = subprocess.run(["sh", "-c", words, str(ROOT / "tools" / "kit.sh")], stdin=subprocess.DEVNULL,
                            stdout=subprocess.PIPE, check=True).stdout
     return [os.fsdecode(word) for word in found.split(b"\0")[:-1]]
@@ -92,7 +92,7 @@ def hint(name, usage):
 
 def run(name, crate, usage, arguments):
     hint(name, usage)
-    command = [*starter(), str(ROOT / "target" / "bin" / crate)]
+    command = [*starter(), str(prove.program(ROOT, crate))]
     if name == "ledger" and arguments[0] == "--pool":
         return pool_ledger.main([name, *command, "--", *arguments[1:]])
     if name == "show" and arguments:

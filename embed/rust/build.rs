@@ -1,5 +1,5 @@
-// Links libembed.a: from TRUSSHEMP_LIB where that is set, else from the repository's target/staticlib, where
-// `rt staticlib embed` makes it if it is missing. The archive is for x86-64; for another processor nothing is linked,
+// Links libembed.a: from TRUSSHEMP_LIB where that is set, else from the repository's crates/embed/out, where
+// `rt lib` makes it if it is missing. The archive is for x86-64; for another processor nothing is linked,
 // and the crate has records and replies only.
 use std::io::Write;
 use std::path::{Path, PathBuf};
@@ -16,7 +16,7 @@ fn main() {
     let here = PathBuf::from(env::var_os("CARGO_MANIFEST_DIR").expect("cargo sets it"));
     let given = env::var_os("TRUSSHEMP_LIB").map(PathBuf::from);
     let root = here.ancestors().nth(2).unwrap_or(&here);
-    let folder = given.clone().unwrap_or_else(|| root.join("target/staticlib"));
+    let folder = given.clone().unwrap_or_else(|| root.join("crates/embed/out"));
     let archive = folder.join("libembed.a");
     println!("cargo:rerun-if-changed={}", archive.display());
     if !archive.exists() {
@@ -32,7 +32,7 @@ fn main() {
 /// Ends the build: cargo shows what is said here.
 fn fail(archive: &Path, reason: &str) {
     eprintln!("There is no {}: {reason}.", archive.display());
-    eprintln!("Make it by `rt staticlib embed` in the repository of trusshemp (the kit: README.md, \"Run it\"),");
+    eprintln!("Make it by `rt lib` in crates/embed of the repository of trusshemp (the kit: README.md, \"Run it\"),");
     eprintln!("or set TRUSSHEMP_LIB to the folder in which libembed.a stands.");
     exit(1);
 }
@@ -40,14 +40,14 @@ fn fail(archive: &Path, reason: &str) {
 /// Makes the archive. Where the crates are not yet proved that takes minutes, during which cargo shows nothing of a
 /// build script: the terminal is told.
 fn make(archive: &Path, root: &Path) {
-    let command = "rt staticlib embed";
+    let command = "rt lib";
     if !root.join("crates/embed").is_dir() {
         return fail(archive, "this crate does not stand in its repository");
     }
     if let Ok(mut terminal) = fs::OpenOptions::new().write(true).open("/dev/tty") {
         let _ = writeln!(terminal, "trusshemp: `{command}` makes the archive, and proves it first: some minutes, once");
     }
-    match Command::new("rt").args(["staticlib", "embed"]).current_dir(root).output() {
+    match Command::new("rt").arg("lib").current_dir(root.join("crates/embed")).output() {
         Err(error) => fail(archive, &format!("`{command}` does not start ({error})")),
         Ok(run) if !run.status.success() || !archive.exists() => {
             eprintln!("{}{}", String::from_utf8_lossy(&run.stdout), String::from_utf8_lossy(&run.stderr));

@@ -8,7 +8,6 @@ TRUSSHEMP_SILENT, a symbolic link, what is missing, and the status of each progr
 import contextlib
 import os
 import pathlib
-import platform
 import shutil
 import signal
 import subprocess
@@ -25,10 +24,13 @@ SECONDS = 60
 SILENT = "TRUSSHEMP_SILENT"
 LONG = "600"
 
-# stands for `rt check CRATE`: where the file SLOW is there it starts a process that would go on, and says its number
+# stands for `rt run` in a crate's folder, which proves and builds: where the file SLOW is there it starts a process that
+# would go on, and says its number
 RT = """#!/bin/sh
+cd ../..
 if [ -f slow ]; then
-  echo "rt: paper proved (5 s)"
+  echo "crate paper: modules loaded=0 checked=5"
+  echo "logic=proved functions=0"
   sleep 600 &
   echo $! > child
   while [ -f slow ]; do sleep 0.05; done
@@ -37,8 +39,6 @@ fi
 if [ -f wrong ]; then echo "some fact is not proved"; exit 1; fi
 echo "rt: ok"
 """
-# stands for the kit's loader: `ld.so --library-path FOLDER PROGRAM ..`
-LOADER = '#!/bin/sh\nshift 2\nexec "$@"\n'
 
 
 SIGNALS = (signal.SIGINT, signal.SIGTERM, signal.SIGHUP)
@@ -66,7 +66,6 @@ class House:
             (crate / "src" / "main.rt").touch()
             self.program(crate.name, "true")
         self.script(self.kit / "bin" / "rt", RT)
-        self.script(self.kit / "on" / platform.machine() / "toolchain" / "lib" / "ld-linux-x86-64.so.2", LOADER)
         # on a slow machine the stand-in too can take longer than usual
         self.places = {"PATH": f"{self.kit / 'bin'}:{os.environ['PATH']}", "RATTLE_HOME": str(self.kit), SILENT: LONG}
 
@@ -76,7 +75,7 @@ class House:
         path.chmod(0o755)
 
     def program(self, crate, text):
-        self.script(self.root / "target" / "bin" / crate, f"#!/bin/sh\n{text}\n")
+        self.script(prove.program(self.root, crate), f"#!/bin/sh\n{text}\n")
 
     def start(self, *words, run=None, **ends):
         """Started with `places` in its environment, but for those that are None."""
@@ -190,12 +189,12 @@ def slow(house):
     of TRUSSHEMP_SILENT."""
     said, quiet, first = at_once(house, None, None, LONG)
     expect("not before the usual time", quiet >= prove.USUAL, True)
-    holds("the first", said[0], "./run: proves and builds replay", "target/run-replay.log", "paper is proved (5 s)")
+    holds("the first", said[0], "./run: proves and builds replay", "target/run-replay.log", "paper is proved (5 modules checked)")
     holds("the second", said[1], f"./run: waits for ./run replay (process {first}), which proves or checks")
     expect("a wait that may take long", said[2], "")
     said, quiet, first = at_once(house, LONG, "soon")
     expect("not before the usual time, with no number", quiet >= prove.USUAL, True)
-    expect("a check that may take long", said[0], "./run: paper is proved (5 s)\n")
+    expect("a check that may take long", said[0], "./run: paper is proved (5 modules checked)\n")
     holds("no number", said[1], f"./run: waits for ./run replay (process {first}), which proves or checks")
     return "each step is said, where it takes longer than it may"
 

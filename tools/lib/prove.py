@@ -13,7 +13,7 @@ import subprocess
 import sys
 import time
 
-# a check that finds all proved takes a tenth of a second, and some more on a busy machine
+# where all is proved and built that is found out in a second, and some more on a busy machine
 USUAL = 3.0
 # a day: `select` takes no number as large as some settings, `inf` among them
 LONGEST = 86400.0
@@ -21,7 +21,8 @@ LONGEST = 86400.0
 PAUSE = 0.03
 END = 5.0
 LAST = 20
-PROVED = re.compile(rb"rt: (\S+) proved \((\d+) s\)")
+CRATE = re.compile(rb"crate (\S+): modules loaded=\d+ checked=([1-9]\d*)")
+PROVED = b"logic=proved "
 
 
 def silent(setting):
@@ -34,6 +35,11 @@ def silent(setting):
 
 
 SILENT = silent(os.environ.get("TRUSSHEMP_SILENT", ""))
+
+
+def program(root, crate):
+    """Where a program stands once it is built."""
+    return root / "crates" / crate / "out" / crate
 
 
 def say(words):
@@ -105,7 +111,7 @@ def end_with(child):
 def follow(child, log, started):
     """Writes what the check says to the log, and a line for each crate that it proves. `started` is called once, where
     the check takes longer than SILENT."""
-    begun, rest = time.monotonic(), b""
+    begun, rest, named = time.monotonic(), b"", None
     while True:
         wait = None if started is None else max(0, SILENT - (time.monotonic() - begun))
         if not select.select([child.stdout], [], [], wait)[0]:
@@ -117,14 +123,18 @@ def follow(child, log, started):
             return
         log.write(data)
         *lines, rest = (rest + data).split(b"\n")
-        for found in filter(None, map(PROVED.fullmatch, lines)):
-            say(f"{found[1].decode()} is proved ({found[2].decode()} s)")
+        for line in lines:
+            named = CRATE.fullmatch(line) or named
+            if named and line.startswith(PROVED):
+                say(f"{named[1].decode()} is proved ({named[2].decode()} modules checked)")
+                named = None
 
 
 def checked(root, name, crate, log):
-    """Whether `rt check` proves the crate; standard input is not its."""
-    child = subprocess.Popen(["rt", "check", crate], cwd=root, stdin=subprocess.DEVNULL, stdout=subprocess.PIPE,
-                             stderr=subprocess.STDOUT, start_new_session=True)
+    """Whether `rt run` proves and builds the crate. It also runs the program once, with no input and no arguments: how
+    that ends says nothing of the proof."""
+    child = subprocess.Popen(["rt", "run"], cwd=root / "crates" / crate, stdin=subprocess.DEVNULL,
+                             stdout=subprocess.PIPE, stderr=subprocess.STDOUT, start_new_session=True)
     before = end_with(child)
     words = f"proves and builds {name} where that is not yet done (minutes, once); the log is "
     follow(child, log, lambda: say(words + os.path.relpath(log.name)))
