@@ -11,7 +11,7 @@ ghost use Rattle.compare.specs.Turns.{state_of, Went, Turned, standing, Compares
 use std::io;
 use std::io::{Read, Write};
 use stream::files;
-use stream::files::{Feed, NAME, Opened};
+use stream::files::{Feed, NAME, Source};
 
 // A reply has at most 65,539 bytes, so there is always room to read on behind one that is not whole yet.
 const INPUT: usize = 131072;
@@ -111,13 +111,15 @@ fn fed(s: State, first: Feed, second: Feed, more: bool, spent: bool) -> State
 // Where no pair is compared: reads the file on that is waited for, or ends the run.
 fn go_on<R: Read>(
     s: State,
-    first_source: &mut R,
-    second_source: &mut R,
+    first_source: &mut Source<R>,
+    second_source: &mut Source<R>,
     first: &mut [u8],
     second: &mut [u8],
 ) -> State
-    requires { (s.first.held ≤ length first.old) × (s.second.held ≤ length second.old) }
-    ensures { Went s first.old second.old result first.new second.new }
+    requires held_in_bounds { (s.first.held ≤ length first.old) × (s.second.held ≤ length second.old) }
+    requires sources { (first_source.old.fd ≡ s.first.fd) × (second_source.old.fd ≡ s.second.fd) }
+    ensures went { Went s first.old second.old result first.new second.new }
+    ensures same { (first_source.new.fd ≡ first_source.old.fd) × (second_source.new.fd ≡ second_source.old.fd) }
 {
     let a = s.first;
     let b = s.second;
@@ -139,8 +141,8 @@ fn go_on<R: Read>(
 // Writes the lines of the pairs that wait, and makes room for more; where none waits, reads on.
 fn turn<R: Read, W: Write>(
     s: State,
-    first_source: &mut R,
-    second_source: &mut R,
+    first_source: &mut Source<R>,
+    second_source: &mut Source<R>,
     sink: &mut W,
     first: &mut [u8],
     second: &mut [u8],
@@ -148,8 +150,10 @@ fn turn<R: Read, W: Write>(
 ) -> State
     requires held_in_bounds { (s.first.held ≤ length first.old) × (s.second.held ≤ length second.old) }
     requires in_bounds { (65539 ≤ length first.old) × (65539 ≤ length second.old) × (49 ≤ length output.old) }
-    ensures { Turned s first.old second.old output.old result first.new
+    requires sources { (first_source.old.fd ≡ s.first.fd) × (second_source.old.fd ≡ s.second.fd) }
+    ensures turned { Turned s first.old second.old output.old result first.new
         second.new output.new }
+    ensures same { (first_source.new.fd ≡ first_source.old.fd) × (second_source.new.fd ≡ second_source.old.fd) }
 {
     let a = s.first;
     let b = s.second;
@@ -189,14 +193,15 @@ fn turn<R: Read, W: Write>(
 fn run<R: Read, W: Write>(
     first_fd: i32,
     second_fd: i32,
-    first_source: &mut R,
-    second_source: &mut R,
+    first_source: &mut Source<R>,
+    second_source: &mut Source<R>,
     sink: &mut W,
     first: &mut [u8],
     second: &mut [u8],
     out: &mut [u8],
 ) -> State
-    requires { (65539 ≤ length first.old) × (65539 ≤ length second.old) × (49 ≤ length out.old) }
+    requires in_bounds { (65539 ≤ length first.old) × (65539 ≤ length second.old) × (49 ≤ length out.old) }
+    requires sources { (first_source.old.fd ≡ first_fd) × (second_source.old.fd ≡ second_fd) }
     ensures { Compares first_fd second_fd (standing result first.new second.new
         out.new) }
 {
@@ -222,8 +227,8 @@ fn finish<R: Alloc, W: Write, F>(
     rt: &R,
     err: &mut W,
     s: State,
-    first_source: &Opened<F>,
-    second_source: &Opened<F>,
+    first_source: &Source<F>,
+    second_source: &Source<F>,
     first: &[u8],
     second: &[u8],
 ) -> io::Result<()> {

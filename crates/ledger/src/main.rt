@@ -14,7 +14,7 @@ use paper::Blamed;
 use std::io;
 use std::io::{Read, Write};
 use stream::files;
-use stream::files::{Feed, NAME, Opened};
+use stream::files::{Feed, NAME, Source};
 use watch::Book;
 
 // A record or a reply has at most 65,539 bytes, so there is always room to read on behind one that is not whole yet.
@@ -97,13 +97,15 @@ fn fed(s: State, records: Feed, replies: Feed, part: u8, rest: usize, more: bool
 fn go_on<R: Read>(
     s: State,
     m: Move,
-    records_source: &mut R,
-    replies_source: &mut R,
+    records_source: &mut Source<R>,
+    replies_source: &mut Source<R>,
     records: &mut [u8],
     replies: &mut [u8],
 ) -> State
-    ensures { Went s m records.old replies.old result records.new
+    requires { (records_source.old.fd ≡ s.records.fd) × (replies_source.old.fd ≡ s.replies.fd) }
+    ensures went { Went s m records.old replies.old result records.new
         replies.new }
+    ensures same { (records_source.new.fd ≡ records_source.old.fd) × (replies_source.new.fd ≡ replies_source.old.fd) }
 {
     let a = s.records;
     let b = s.replies;
@@ -126,14 +128,16 @@ fn go_on<R: Read>(
 // What to do where no exchange is whole.
 fn starve<R: Read>(
     s: State,
-    records_source: &mut R,
-    replies_source: &mut R,
+    records_source: &mut Source<R>,
+    replies_source: &mut Source<R>,
     records: &mut [u8],
     replies: &mut [u8],
 ) -> State
-    requires { (s.records.held ≤ length records.old) × (s.replies.held ≤ length replies.old) }
-    ensures { Went s (wants s records.old replies.old) records.old
+    requires held_in_bounds { (s.records.held ≤ length records.old) × (s.replies.held ≤ length replies.old) }
+    requires sources { (records_source.old.fd ≡ s.records.fd) × (replies_source.old.fd ≡ s.replies.fd) }
+    ensures went { Went s (wants s records.old replies.old) records.old
         replies.old result records.new replies.new }
+    ensures same { (records_source.new.fd ≡ records_source.old.fd) × (replies_source.new.fd ≡ replies_source.old.fd) }
 {
     let a = s.records;
     let b = s.replies;
@@ -148,14 +152,16 @@ fn starve<R: Read>(
 // Hears the exchanges that are whole, and makes room for more; where none is whole, reads on.
 fn turn<R: Read>(
     s: State,
-    records_source: &mut R,
-    replies_source: &mut R,
+    records_source: &mut Source<R>,
+    replies_source: &mut Source<R>,
     records: &mut [u8],
     replies: &mut [u8],
 ) -> State
-    requires { (s.records.held ≤ length records.old) × (s.replies.held ≤ length replies.old) }
-    ensures { Turned s records.old replies.old result records.new
+    requires held_in_bounds { (s.records.held ≤ length records.old) × (s.replies.held ≤ length replies.old) }
+    requires sources { (records_source.old.fd ≡ s.records.fd) × (replies_source.old.fd ≡ s.replies.fd) }
+    ensures turned { Turned s records.old replies.old result records.new
         replies.new }
+    ensures same { (records_source.new.fd ≡ records_source.old.fd) × (replies_source.new.fd ≡ replies_source.old.fd) }
 {
     let a = s.records;
     let b = s.replies;
@@ -190,11 +196,12 @@ fn turn<R: Read>(
 fn run<R: Read>(
     records_fd: i32,
     replies_fd: i32,
-    records_source: &mut R,
-    replies_source: &mut R,
+    records_source: &mut Source<R>,
+    replies_source: &mut Source<R>,
     records: &mut [u8],
     replies: &mut [u8],
 ) -> State
+    requires { (records_source.old.fd ≡ records_fd) × (replies_source.old.fd ≡ replies_fd) }
     ensures { Judges records_fd replies_fd (standing result records.new replies.new) }
 {
     let mut s = State {
@@ -253,8 +260,8 @@ fn finish<R: Alloc, O: Write, W: Write, F>(
     out: &mut O,
     err: &mut W,
     s: State,
-    records_source: &Opened<F>,
-    replies_source: &Opened<F>,
+    records_source: &Source<F>,
+    replies_source: &Source<F>,
     records: &[u8],
     replies: &[u8],
 ) -> io::Result<()> {

@@ -1,13 +1,22 @@
 -- A file that is read in blocks: what a read brings, and what waits of it.
-use Rattle.std.specs.Prelude.{ℕ, ◌-◌, ◌≤◌, ◌≡◌, List, [], true, false, length, eqb, ℤ}
+use Rattle.std.specs.Prelude.{ℕ, ◌-◌, ◌≤◌, ◌≡◌, List, [], true, false, length, eqb, ℤ, pos, negsuc}
 use Rattle.stream.specs.Turns as Reading
 use Rattle.stream.specs.declared.files.Feed.{Feed}
+
+-- a file that is open has a descriptor, which is no negative number; of the others one is answered, -1
+abbrev pub Opened : ℤ → Type 0
+Opened (pos k) = Unit {0}
+Opened (negsuc k) = k ≡ 0
 
 -- One read of a file, which has ended where nothing was read
 pub record Fed (f : Feed) (before : List ℕ) (r : Feed) (after : List ℕ) : Type 0 where
   pub fd : r.fd ≡ f.fd
   pub ended : r.ended ≡ eqb r.held f.held
   pub read : Reading.Fed f.held before (record { held = r.held; failed = r.failed }) after
+
+-- the file that a source of this number is read on for: it has the source's number, whatever it had
+abbrev pub read_of : ℤ → Feed → Feed
+read_of fd f = record { fd = fd; held = f.held; ended = f.ended; failed = f.failed }
 
 -- what was read
 abbrev pub brought : Feed → Feed → List ℕ → List ℕ

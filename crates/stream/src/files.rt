@@ -1,6 +1,6 @@
 // Files that are named by the program's arguments and read in blocks.
-ghost use Rattle.std.specs.Prelude.{◌≡◌, ◌≤◌, length};
-ghost use Rattle.stream.specs.Files.{Fed, lessened, unread};
+ghost use Rattle.std.specs.Prelude.{◌≡◌, ◌≤◌, length, pos, IfOk, IfSome};
+ghost use Rattle.stream.specs.Files.{Opened, Fed, read_of, lessened, unread};
 
 use std::env::FillError;
 use std::fs::File;
@@ -22,7 +22,7 @@ const NO_TEXT: i32 = 84;
 const NO_ROOM: i32 = 105;
 
 // A file: how many of its bytes wait at the start of its buffer, and whether it has ended or could not be read. The
-// program tells its files apart by the number.
+// program tells its files apart by the number, which is that of the source that they are read from.
 #[derive(Clone, Copy)]
 pub struct Feed {
     pub fd: i32,
@@ -31,14 +31,21 @@ pub struct Feed {
     pub failed: bool,
 }
 
-// A file that is open, and why the last read of it failed, if one did.
+// A file that is open, and its place among the program's arguments.
 #[derive(Drop)]
-pub struct Opened<F> {
+pub struct Source<F> {
+    pub fd: i32,
+    reader: Reader<F>,
+}
+
+// What it is read with, and why the last read failed, if one did.
+#[derive(Drop)]
+struct Reader<F> {
     file: F,
     why: Option<Error>,
 }
 
-impl<F: Read> Read for Opened<F> {
+impl<F: Read> Read for Reader<F> {
     ghost remaining = { λ o. F.remaining o.file };
 
     fn read(&mut self, buf: &mut [u8]) -> io::Result<usize> {
@@ -65,15 +72,17 @@ pub fn unread(fd: i32) -> Feed
 }
 
 // One read behind the bytes that wait. None is read at the end of the file, or where it can't be read; a buffer that is
-// full counts as a file that can't be read, so that nothing rests on it.
-pub fn read_on<R: Read>(source: &mut R, f: Feed, bytes: &mut [u8]) -> Feed
-    ensures { Fed f bytes.old result bytes.new }
+// full counts as a file that can't be read, so that nothing rests on it. What is read is of the source's file, so the
+// number is the source's.
+pub fn read_on<F: Read>(source: &mut Source<F>, f: Feed, bytes: &mut [u8]) -> Feed
+    ensures fed { Fed (read_of source.old.fd f) bytes.old result bytes.new }
+    ensures same { source.new.fd ≡ source.old.fd }
 {
     let held = f.held;
-    let r = crate::read_on(source, held, bytes);
+    let r = crate::read_on(&mut source.reader, held, bytes);
     let now = r.held;
     Feed {
-        fd: f.fd,
+        fd: source.fd,
         held: now,
         ended: now == held,
         failed: r.failed,
@@ -121,10 +130,15 @@ pub fn open<R: Env + Files + Alloc, W: Write>(
     err: &mut W,
     i: usize,
     program: &[u8],
-) -> io::Result<Option<Opened<R::File>>> {
+) -> io::Result<Option<Source<R::File>>>
+    ensures { IfOk result (λ o. IfSome o (λ s. (s.fd ≡ pos i) × Opened s.fd)) }
+{
+    let Ok(fd) = i32::try_from(i) else {
+        return nameless(rt, err, program, MISSING);
+    };
     let mut path = [0u8; NAME];
     match rt.arg(i, &mut path) {
-        Ok(n) => open_path(rt, err, &path[..n], program),
+        Ok(n) => open_path(rt, err, fd, &path[..n], program),
         Err(FillError::NotPresent) => nameless(rt, err, program, MISSING),
         Err(FillError::TooLong) => nameless(rt, err, program, TOO_LONG),
     }
@@ -135,7 +149,9 @@ fn nameless<R: Files + Alloc, W: Write>(
     err: &mut W,
     program: &[u8],
     code: i32,
-) -> io::Result<Option<Opened<R::File>>> {
+) -> io::Result<Option<Source<R::File>>>
+    ensures { IfOk result (λ o. o ≡ None) }
+{
     let why = Error::from_raw_os_error(code);
     say(rt, err, b"the file's name", program, &why)?;
     Ok(None)
@@ -144,11 +160,17 @@ fn nameless<R: Files + Alloc, W: Write>(
 fn open_path<R: Files + Alloc, W: Write>(
     rt: &R,
     err: &mut W,
+    fd: i32,
     path: &[u8],
     program: &[u8],
-) -> io::Result<Option<Opened<R::File>>> {
+) -> io::Result<Option<Source<R::File>>>
+    ensures { IfOk result (λ o. IfSome o (λ s. s.fd ≡ fd)) }
+{
     match open_text(rt, path) {
-        Ok(file) => Ok(Some(Opened { file, why: None })),
+        Ok(file) => Ok(Some(Source {
+            fd,
+            reader: Reader { file, why: None },
+        })),
         Err(e) => {
             say(rt, err, path, program, &e)?;
             Ok(None)
@@ -168,11 +190,11 @@ fn open_text<R: Files>(rt: &R, path: &[u8]) -> io::Result<R::File> {
 pub fn unreadable<R: Alloc, W: Write, F>(
     rt: &R,
     err: &mut W,
-    file: &Opened<F>,
+    file: &Source<F>,
     path: &[u8],
     program: &[u8],
 ) -> io::Result<()> {
-    let why = match file.why {
+    let why = match file.reader.why {
         Some(e) => e,
         None => Error::from_raw_os_error(NO_ROOM),
     };

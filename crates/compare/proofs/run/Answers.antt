@@ -1,4 +1,4 @@
--- Some turns led here from number 0, and the turns that are left fall.
+-- Some turns led here from number 0, the sources are those of the two files, and the turns that are left fall.
 use mathlib.Core.Path.{refl}
 use mir.Facts.{to_z-of_z}
 use native.Mathlib.Omega.{arith}
@@ -13,14 +13,14 @@ pub loop-left-init : goal.loop-left-init
 loop-left-init g c =
     let a = c.unread.ensures in
     let b = c.unread-2.ensures in
-    (none_held a, none_held b, refl, refl, refl, begins _ Turning _ (record { number = refl; first = a; second = b; more = refl }))
+    (none_held a, none_held b, refl, refl, refl, search rules, search rules, begins _ Turning _ (record { number = refl; first = a; second = b; more = refl }))
 
 pub loop-left-smaller : goal.loop-left-smaller
 loop-left-smaller g c = omega (arith, fewer c.turns_left-left.ensures)
 
 pub loop-left-preserved : goal.loop-left-preserved
 loop-left-preserved g c =
-    (search rules, search rules, search rules, search rules, search rules, one_turn _ Turning _ _ c.loop-left.invariant.5 (omega arith) c.turns_left-left.ensures (λ m. (m, c.turn-s.ensures)))
+    (search rules, search rules, search rules, search rules, search rules, search rules, search rules, one_turn _ Turning _ _ c.loop-left.invariant.7 (omega arith) c.turns_left-left.ensures (λ m. (m, c.turn-s.ensures.turned)))
 
 pub returns : goal.returns
-returns g c = rw (to_z-of_z c.ranges.first_fd, to_z-of_z c.ranges.second_fd) at (compares _ _ _ c.loop-left.invariant.5.reached)
+returns g c = rw (to_z-of_z c.ranges.first_fd, to_z-of_z c.ranges.second_fd) at (compares _ _ _ c.loop-left.invariant.7.reached)
