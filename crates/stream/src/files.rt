@@ -34,7 +34,7 @@ pub struct Feed {
 // A file that is open, and its place among the program's arguments.
 #[derive(Drop)]
 pub struct Source<F> {
-    pub fd: i32,
+    fd: i32,
     reader: Reader<F>,
 }
 
