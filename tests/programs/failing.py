@@ -1,7 +1,7 @@
 """Standard input that can't be read, standard output that can't be written: a program stops, and names on standard
 error which one it was.
 
-Used by test_replay.py and test_show.py; the text decides, since programs of this kit have no exit status.
+Used by test_replay.py and test_show.py; the text decides, since a program's own status tells no more than whether it could be said.
 """
 import os
 import subprocess

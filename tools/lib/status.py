@@ -1,5 +1,5 @@
 #!/usr/bin/env python3
-"""Runs a program and ends with a status that tells how it went: a program of the kit has none of its own.
+"""Runs a program and ends with a status that tells how it went: its own tells no more than whether it could say so.
 
     status.py NAME COMMAND..        as ./run calls it
 

@@ -60,7 +60,7 @@ abbrev pub Cuts : Bool → List ℕ → List (List ℕ) → List ℕ → Type 0
 Cuts ended file taken rest =
     (more : List ℕ) → (ended ≡ true → more ≡ []) → replies_of (file ++ more) ≡ taken ++ replies_of (rest ++ more)
 
--- The pairs of a block. `firsts` and `seconds` are the replies that were taken of the first r .first and r.second
+-- The pairs of a block. `firsts` and `seconds` are the replies that were taken of the first r.first and r.second
 -- bytes; their lines are put into the output
 pub record Paired (n : ℕ) (first : List ℕ) (e : Bool) (second : List ℕ) (f : Bool) (before : List ℕ) (r : Compared)
     (after : List ℕ) : Type 0 where

@@ -3,7 +3,8 @@ use Rattle.std.specs.Prelude.{ℕ, ◌-◌, ◌≤◌, ◌≡◌, List, [], true
 use Rattle.stream.specs.Turns as Reading
 use Rattle.stream.specs.declared.files.Feed.{Feed}
 
--- a file that is open has a descriptor, which is no negative number; of the others one is answered, -1
+-- a file that is open has a number that is not negative, its place among the arguments; of the negative ones -1 is left,
+-- which once stood for a file that can't be opened
 abbrev pub Opened : ℤ → Type 0
 Opened (pos k) = Unit {0}
 Opened (negsuc k) = k ≡ 0
