@@ -183,7 +183,7 @@ def sentences_of_header():
 def words_of_show():
     """The word of the program show for each refusal that a reply can have."""
     text = (ROOT / "crates" / "show" / "src" / "replies.rt").read_text()
-    return {int(number): word for number, word in re.findall(r'(\d+) => text::put\(d, at, b"([a-z0-9-]+)"\)', text)}
+    return {int(number): word for number, word in re.findall(r'(\d+) => b"([a-z0-9-]+)"', text)}
 
 
 def rules():

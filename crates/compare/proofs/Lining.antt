@@ -1,13 +1,12 @@
 -- One pair more behind those of a block: a reply of each file, or none of one that has ended, and the line that they
 -- call for.
-use Prim.Native.Nat.{ℕ, ◌+◌, ◌-◌, ◌≤◌, ◌<◌, max}
+use Prim.Native.Nat.{ℕ, ◌+◌, ◌≤◌, ◌<◌, max}
 use mathlib.Core.Path.{◌≡◌, refl, sym, ap, ap₂, subst, ◌∙◌}
 use mathlib.Core.List.{List, [], ◌++◌}
 use mathlib.Core.Bool.{Bool, true, false, ◌&&◌}
 use native.Mathlib.Omega.{arith}
 use lib.Dec.{ltb}
-use lib.ListN.{length, take, drop, length-append, length-drop}
-use lib.Seq.{take_all}
+use lib.ListN.{length, take, drop, length-append}
 use borrow.Author.Tests.{le-ltb, ltb-true, ltb-false}
 use Rattle.paper.specs.Words.{flat}
 use Rattle.paper.proofs.Bools.{split, left, right, not_both}
@@ -36,10 +35,6 @@ nothing_yet n first e second f output =
     }
 
 -- ---- how many replies there are
-
--- the part of a file that runs to its end is all that is behind i
-pub size_at : {n : ℕ} (e : Bool) (l : List ℕ) (i : ℕ) → n ≡ reply_size e (take (length l - i) (drop i l)) → n ≡ reply_size e (drop i l)
-size_at e l i q = q ∙ ap (reply_size e) (take_all (length l - i) (drop i l) (let d = length-drop i l in omega arith))
 
 pub goes_at : {n m : ℕ} {b : Bool} (next : ℕ) (e : Bool) (x : List ℕ) (f : Bool) (y : List ℕ) → n ≡ reply_size e x → m ≡ reply_size f y → goes_with next e n f m ≡ b → goes next e x f y ≡ b
 goes_at next e x f y p q t = sym (ap₂ (λ (k l : ℕ). goes_with next e k f l) p q) ∙ t

@@ -20,7 +20,8 @@ use Rattle.stream.proofs.Running.{Reached, over_turns}
 use Rattle.compare.specs.Lines.{replies_of, lines_from, compared_text}
 use Rattle.compare.specs.declared.State.{State}
 use Rattle.compare.specs.Pairs.{ready, some_left, lines_text, Cuts}
-use Rattle.compare.specs.Turns.{waiting, at_end, size_in, pair_waits, Goes, Turned, Stand, first_in, second_in, written_in, Starts, Turning, Comparing, Compares}
+use Rattle.compare.specs.Turns.{more, unwritten, spent, waiting, at_end, size_in, pair_waits, Goes, Turned, Stand, first_in, second_in, written_in, Starts, Turning, Comparing, Compares}
+use Rattle.compare.proofs.Turning.{more_read, more_left, spent_left}
 use Rattle.compare.proofs.Pairing.{none_off, none_of, reply_none, from_none}
 
 -- ---- one file in a turn
@@ -162,12 +163,12 @@ module _ {R A W : List ℕ} {b s : Stand} (g : Comparing b R A W) (t : Turned b.
 
 -- a run goes on only where no read failed
 module _ (s r : State) (first second first' second' : List ℕ) (x : s.first.failed ≡ false) (y : s.second.failed ≡ false) where
-  unfailed : (a b : Bool) → Goes a b s first second r first' second' → r.more ≡ true → (r.first.failed ≡ false) × (r.second.failed ≡ false)
-  unfailed false b w m = (not-true r.first.failed (sym (ap (λ (u : State). u.more) w.2) ∙ m), ap (λ (u : State). u.second.failed) w.2 ∙ y)
-  unfailed true false w m = (ap (λ (u : State). u.first.failed) w.2 ∙ x, not-true r.second.failed (sym (ap (λ (u : State). u.more) w.2) ∙ m))
-  unfailed true true w m = not_both r.more m (ap (λ (u : State). u.more) w.2)
+  unfailed : (a b : Bool) → Goes a b s first second r first' second' → more r ≡ true → (r.first.failed ≡ false) × (r.second.failed ≡ false)
+  unfailed false b w m = (not-true r.first.failed (sym (ap more w.2 ∙ more_read r.first.failed) ∙ m), ap (λ (u : State). u.second.failed) w.2 ∙ y)
+  unfailed true false w m = (ap (λ (u : State). u.first.failed) w.2 ∙ x, not-true r.second.failed (sym (ap more w.2 ∙ more_read r.second.failed) ∙ m))
+  unfailed true true w m = not_both (more r) m (ap more w.2 ∙ more_left _)
 
-  turn_unfailed : {output output' : List ℕ} → Turned s first second output r first' second' output' → r.more ≡ true → (r.first.failed ≡ false) × (r.second.failed ≡ false)
+  turn_unfailed : {output output' : List ℕ} → Turned s first second output r first' second' output' → more r ≡ true → (r.first.failed ≡ false) × (r.second.failed ≡ false)
   turn_unfailed t m =
       split (pair_waits s first second)
       (λ e. let k = t.compares e in (k.1.failed ∙ x, k.2.failed ∙ y))
@@ -210,19 +211,19 @@ none_size n m h =
     (λ v. let w = ltb-false 0 m v in (omega arith, omega arith)))
 
 module _ (s r : State) (first second first' second' : List ℕ) where
-  over : (a b : Bool) → ready s.first.ended (size_in s.first first) ≡ a → ready s.second.ended (size_in s.second second) ≡ b → Goes a b s first second r first' second' → r.more ≡ false
-      → r.first.failed ≡ false → r.second.failed ≡ false → r.spent ≡ false → Over r.first first' × Over r.second second'
-  over false b p q w m x y z = not_both r.more (ap (λ (u : State). u.more) w.2 ∙ ap not x) m
-  over true false p q w m x y z = not_both r.more (ap (λ (u : State). u.more) w.2 ∙ ap not y) m
+  over : (a b : Bool) → ready s.first.ended (size_in s.first first) ≡ a → ready s.second.ended (size_in s.second second) ≡ b → Goes a b s first second r first' second' → more r ≡ false
+      → r.first.failed ≡ false → r.second.failed ≡ false → spent r ≡ false → Over r.first first' × Over r.second second'
+  over false b p q w m x y z = not_both (more r) (ap more w.2 ∙ more_read r.first.failed ∙ ap not x) m
+  over true false p q w m x y z = not_both (more r) (ap more w.2 ∙ more_read r.second.failed ∙ ap not y) m
   over true true p q w m x y z =
-      let k = none_size (size_in s.first first) (size_in s.second second) (sym (ap (λ (u : State). u.spent) w.2) ∙ z) in
+      let k = none_size (size_in s.first first) (size_in s.second second) (sym (ap spent w.2 ∙ spent_left _) ∙ z) in
       rw (w.0, w.1, w.2) (over_file s.first first p k.0, over_file s.second second q k.1)
 
-  turn_over : {output output' : List ℕ} → Turned s first second output r first' second' output' → r.more ≡ false → r.first.failed ≡ false → r.second.failed ≡ false → r.unwritten ≡ false → r.spent ≡ false
+  turn_over : {output output' : List ℕ} → Turned s first second output r first' second' output' → more r ≡ false → r.first.failed ≡ false → r.second.failed ≡ false → unwritten r ≡ false → spent r ≡ false
       → Over r.first first' × Over r.second second'
   turn_over t m x y u z =
       split (pair_waits s first second)
-      (λ e. not_both r.more ((t.compares e).3 ∙ ap not u) m)
+      (λ e. not_both (more r) ((t.compares e).3 ∙ ap not u) m)
       (λ e. over (ready s.first.ended (size_in s.first first)) (ready s.second.ended (size_in s.second second)) refl refl (t.reads e).2 m x y z)
 
 abbrev Complete : List ℕ → List ℕ → List ℕ → Stand → Type 0
@@ -244,8 +245,8 @@ complete {R} {A} {s = s} g a b =
 
 record Told (R A W : List ℕ) (s : Stand) : Type 0 where
   so_far : Comparing s R A W
-  unfailing : s.state.more ≡ true → (s.state.first.failed ≡ false) × (s.state.second.failed ≡ false)
-  end : s.state.more ≡ false → s.state.first.failed ≡ false → s.state.second.failed ≡ false → s.state.unwritten ≡ false → s.state.spent ≡ false → Complete R A W s
+  unfailing : more s.state ≡ true → (s.state.first.failed ≡ false) × (s.state.second.failed ≡ false)
+  end : more s.state ≡ false → s.state.first.failed ≡ false → s.state.second.failed ≡ false → unwritten s.state ≡ false → spent s.state ≡ false → Complete R A W s
 
 told_on : {R A W : List ℕ} {b s : Stand} → Told R A W b → Turning b s → Told (R ++ first_in b s) (A ++ second_in b s) (W ++ written_in b s) s
 told_on {b = b} {s = s} g t =
@@ -263,7 +264,7 @@ AllTold turns s = Told (through first_in turns s) (through second_in turns s) (t
 module _ (x y : ℤ) where
   told_none : (s : Stand) → Starts x y s → AllTold [] s
   unfolding through
-  told_none s b = record { so_far = nothing_compared b; unfailing = λ _. (ap (λ (f : Feed). f.failed) b.first, ap (λ (f : Feed). f.failed) b.second); end = λ m p q u z. not_both s.state.more b.more m }
+  told_none s b = record { so_far = nothing_compared b; unfailing = λ _. (ap (λ (f : Feed). f.failed) b.first, ap (λ (f : Feed). f.failed) b.second); end = λ m p q u z. not_both (more s.state) b.more m }
 
   told_turns : (turns : List Stand) (s : Stand) → Ran (Starts x y) Turning turns s → AllTold turns s
   unfolding through

@@ -3,16 +3,16 @@
 use Prim.Native.Nat.{ℕ, ◌+◌, ◌-◌, ◌≤◌, ◌<◌}
 use mathlib.Core.Path.{◌≡◌, refl, sym, ap, ap₂, subst, ◌∙◌}
 use mathlib.Core.List.{List, [], ◌++◌}
-use mathlib.Core.Bool.{Bool, true, false, not, ◌&&◌, not-not}
+use mathlib.Core.Bool.{Bool, true, false, cond, not, ◌&&◌}
 use native.Mathlib.Omega.{arith}
 use lib.Dec.{ltb, eqb}
-use lib.ListN.{length, get_or, drop}
+use lib.ListN.{length, drop}
 use lib.Seq.{length-take-le}
 use borrow.Author.Tests.{eqb-true, eq-eqb}
 use Rattle.paper.specs.Words.{flat}
 use Rattle.paper.proofs.Bools.{both, left, right, not_both, or_right}
 use Rattle.format.specs.Cut.{size_of}
-use Rattle.format.proofs.Fitting.{within, room_left}
+use Rattle.format.proofs.Fitting.{within}
 use Rattle.stream.specs.declared.files.Feed.{Feed}
 use Rattle.stream.specs.Laid.{Puts}
 use Rattle.stream.specs.Turns.{shifted}
@@ -23,9 +23,28 @@ use Rattle.stream.proofs.Sides.{Side, side_fed, side_same, onward_less, unread_l
 use Rattle.compare.specs.Lines.{replies_of, lines_from}
 use Rattle.compare.specs.declared.Compared.{Compared}
 use Rattle.compare.specs.declared.State.{State}
+use Rattle.compare.specs.declared.Next.{Next}
+use Rattle.compare.specs.declared.Next.TheVariants.{More, End, Spent}
+use Rattle.compare.specs.Next.{is_more, is_unwritten, is_spent}
 use Rattle.compare.specs.Pairs.{ready, some_left, goes, lines_text, Cuts, Paired}
-use Rattle.compare.specs.Turns.{waiting, size_in, pair_waits, state_of, Goes, Went, Turned}
+use Rattle.compare.specs.Turns.{waiting, size_in, pair_waits, behind_read, state_of, Goes, Went, Turned}
 use Rattle.compare.proofs.Lining.{not_nothing}
+
+-- ---- what comes next
+
+-- behind a read
+pub more_read : (failed : Bool) → is_more (cond failed Next.Unread More) ≡ not failed
+more_read true = refl
+more_read false = refl
+
+-- where no file is waited for
+pub more_left : (left : Bool) → is_more (cond left Spent End) ≡ false
+more_left true = refl
+more_left false = refl
+
+pub spent_left : (left : Bool) → is_spent (cond left Spent End) ≡ left
+spent_left true = refl
+spent_left false = refl
 
 -- ---- a turn that compares nothing
 
@@ -69,9 +88,9 @@ record Still (s : State) (first second : List ℕ) (r : State) (first' second' :
   number : r.number ≡ s.number
 
 module _ (s : State) (first second : List ℕ) (h : s.first.held ≤ length first) (k : s.second.held ≤ length second) where
-  still : {f g : Feed} {first' second' : List ℕ} (more spent : Bool) → Side s.first first f first' → Side s.second second g second' → (s.first.ended ≡ true → Unread s.first f first')
-      → (s.second.ended ≡ true → Unread s.second g second') → Still s first second (state_of s f g more spent) first' second'
-  still more spent a b c d =
+  still : {f g : Feed} {first' second' : List ℕ} (next : Next) → Side s.first first f first' → Side s.second second g second' → (s.first.ended ≡ true → Unread s.first f first')
+      → (s.second.ended ≡ true → Unread s.second g second') → Still s first second (state_of s f g next) first' second'
+  still next a b c d =
       record {
         first_on = a.onward;
         second_on = b.onward;
@@ -90,12 +109,12 @@ module _ (s : State) (first second : List ℕ) (h : s.first.held ≤ length firs
   module _ {r : State} {first' second' : List ℕ} where
     moved : (a b : Bool) → Ready s.first first a → Ready s.second second b → Goes a b s first second r first' second' → Still s first second r first' second'
     moved false b p q w =
-        rw (w.1, w.2) (still (not r.first.failed) false (side_fed h w.0) (side_same s.second second k) (not_waited s.first first p) (λ _. unread_same s.second second))
+        rw (w.1, w.2) (still (behind_read r.first) (side_fed h w.0) (side_same s.second second k) (not_waited s.first first p) (λ _. unread_same s.second second))
     moved true false p q w =
-        rw (w.1, w.2) (still (not r.second.failed) false (side_same s.first first h) (side_fed k w.0) (λ _. unread_same s.first first) (not_waited s.second second q))
+        rw (w.1, w.2) (still (behind_read r.second) (side_same s.first first h) (side_fed k w.0) (λ _. unread_same s.first first) (not_waited s.second second q))
     moved true true p q w =
         rw (w.0, w.1, w.2)
-        (still false (some_left (size_in s.first first) (size_in s.second second)) (side_same s.first first h) (side_same s.second second k) (λ _. unread_same s.first first)
+        (still (cond (some_left (size_in s.first first) (size_in s.second second)) Spent End) (side_same s.first first h) (side_same s.second second k) (λ _. unread_same s.first first)
         (λ _. unread_same s.second second))
 
     starves : {output output' : List ℕ} → pair_waits s first second ≡ false → output' ≡ output → Went s first second r first' second'
@@ -136,37 +155,25 @@ module _ {n : ℕ} {after : List ℕ} (f : Feed) (before : List ℕ) (h : f.held
   none_held q = let l = length-take-le f.held before h in omega arith
 
 -- what the turn gives where it compared some
-abbrev pub gone : State → Compared → Bool → State
-gone s l wrote =
-    record {
-      number = l.number;
-      first = lessened s.first l.first;
-      second = lessened s.second l.second;
-      made = l.made;
-      more = wrote;
-      unwritten = not wrote;
-      spent = false;
-    }
+abbrev pub gone : State → Compared → Next → State
+gone s l next = record { number = l.number; first = lessened s.first l.first; second = lessened s.second l.second; made = l.made; next = next }
 
 -- ---- one turn
 
 module _ {l : Compared} {output output' : List ℕ} (s : State) (first second : List ℕ) (p : (s.first.held ≤ length first) × (s.second.held ≤ length second))
-    (q : (65539 ≤ length first) × (65539 ≤ length second) × (49 ≤ length output)) (one : (k : ℕ) → get_or first k 0 < 256) (two : (k : ℕ) → get_or second k 0 < 256)
+    (q : 49 ≤ length output) (room : (size_of (waiting s.first first) ≡ 0 → s.first.held < length first) × (size_of (waiting s.second second) ≡ 0 → s.second.held < length second))
     (g : Paired s.number (waiting s.first first) s.first.ended (waiting s.second second) s.second.ended output l output') where
-  room : (size_of (waiting s.first first) ≡ 0 → s.first.held < length first) × (size_of (waiting s.second second) ≡ 0 → s.second.held < length second)
-  room = (room_left s.first.held first one q.0 p.0, room_left s.second.held second two q.1 p.1)
-
   -- A TURN THAT COMPARES NOTHING
   pub starved : {r : State} {first' second' : List ℕ} → (eqb l.first 0 && eqb l.second 0) ≡ true
       → (l.made + 49 ≤ length output' → goes l.number s.first.ended (drop l.first (waiting s.first first)) s.second.ended (drop l.second (waiting s.second second)) ≡ false)
       → Went s first second r first' second' → Turned s first second output r first' second' output'
-  starved t all w = let n = none_waits s first second g t all q.2 in starves s first second p.0 p.1 n.0 n.1 w room
+  starved t all w = let n = none_waits s first second g t all q in starves s first second p.0 p.1 n.0 n.1 w room
 
   -- A TURN THAT COMPARES SOME
-  pub lined : {first' second' : List ℕ} (wrote : Bool) → (eqb l.first 0 && eqb l.second 0) ≡ false
+  pub lined : {first' second' : List ℕ} {next : Next} → is_more next ≡ not (is_unwritten next) → is_spent next ≡ false → (eqb l.first 0 && eqb l.second 0) ≡ false
       → (l.first ≤ length (waiting s.first first)) × (l.second ≤ length (waiting s.second second)) × (l.made ≤ length output') → first' ≡ shifted first l.first s.first.held
-      → second' ≡ shifted second l.second s.second.held → Turned s first second output (gone s l wrote) first' second' output'
-  lined {first'} {second'} wrote t x a b =
+      → second' ≡ shifted second l.second s.second.held → Turned s first second output (gone s l next) first' second' output'
+  lined {first' = first'} {second' = second'} m u t x a b =
       let some = some_waits s first second g t in
       record {
         firsts = g.firsts;
@@ -184,8 +191,8 @@ module _ {l : Compared} {output output' : List ℕ} (s : State) (first second : 
               g.any (not_nothing l.first l.second some),
               unread_less s.first l.first first',
               unread_less s.second l.second second',
-              sym (not-not wrote),
-              refl,
+              m,
+              u,
             );
         reads = λ k. let z = g.none k in absurd (some z.0 z.1);
         waits = λ k. let z = g.none k in absurd (some z.0 z.1);

@@ -1,5 +1,5 @@
 -- Replies that wait in two buffers, taken pair by pair, and the lines of those pairs.
-use Rattle.std.specs.Prelude.{ℕ, ◌+◌, ◌<◌, max, ◌≡◌, List, [], ◌++◌, Bool, true, false, cond, ◌&&◌, ◌||◌, ltb, eqb, length, get_or, drop}
+use Rattle.std.specs.Prelude.{ℕ, ◌+◌, ◌<◌, max, ◌≡◌, List, [], ◌++◌, Bool, true, false, cond, ◌&&◌, ◌||◌, ltb, eqb, length, drop}
 use Rattle.paper.specs.Words.{flat}
 use Rattle.format.specs.Cut.{size_of}
 use Rattle.stream.specs.Laid.{Puts}
@@ -30,18 +30,6 @@ goes_with number e n f m = ready e n && ready f m && some_left n m && ltb number
 
 abbrev pub goes : ℕ → Bool → List ℕ → Bool → List ℕ → Bool
 goes number e first f second = goes_with number e (reply_size e first) f (reply_size f second)
-
--- eight bytes from a place on are equal
-abbrev pub same_eight : List ℕ → List ℕ → ℕ → Bool
-same_eight a b i =
-    eqb (get_or a i 0) (get_or b i 0)
-    && eqb (get_or a (i + 1) 0) (get_or b (i + 1) 0)
-    && eqb (get_or a (i + 2) 0) (get_or b (i + 2) 0)
-    && eqb (get_or a (i + 3) 0) (get_or b (i + 3) 0)
-    && eqb (get_or a (i + 4) 0) (get_or b (i + 4) 0)
-    && eqb (get_or a (i + 5) 0) (get_or b (i + 5) 0)
-    && eqb (get_or a (i + 6) 0) (get_or b (i + 6) 0)
-    && eqb (get_or a (i + 7) 0) (get_or b (i + 7) 0)
 
 -- what was taken of a block: the number behind it, so many bytes of each file, and so many bytes of lines
 abbrev pub taken_at : ℕ → ℕ → ℕ → ℕ → Compared

@@ -1,5 +1,5 @@
 -- What a turn of the program does, and what its whole run does: the lines of two files.
-use Rattle.std.specs.Prelude.{ℕ, ◌+◌, ◌<◌, max, ◌≡◌, List, [], ◌++◌, Bool, true, false, not, ◌&&◌, length, take, ℤ}
+use Rattle.std.specs.Prelude.{ℕ, ◌+◌, ◌<◌, max, ◌≡◌, List, [], ◌++◌, Bool, true, false, cond, not, ◌&&◌, length, take, ℤ}
 use Rattle.format.specs.Cut.{size_of}
 use Rattle.stream.specs.declared.files.Feed.{Feed}
 use Rattle.stream.specs.Laid.{Puts}
@@ -8,6 +8,8 @@ use Rattle.stream.specs.Turns.{Ran, through}
 use Rattle.compare.specs.Lines.{compared_text}
 use Rattle.compare.specs.Pairs.{reply_size, ready, some_left, goes, lines_text, Cuts}
 use Rattle.compare.specs.declared.State.{State}
+use Rattle.compare.specs.declared.Next.{Next}
+use Rattle.compare.specs.Next.{is_more, is_unwritten, is_spent}
 
 -- what waits of a file
 abbrev pub waiting : Feed → List ℕ → List ℕ
@@ -21,36 +23,42 @@ size_in f l = reply_size f.ended (waiting f l)
 abbrev pub at_end : Feed → Bool
 at_end f = f.ended && not f.failed
 
+-- whether the run goes on behind a turn, whether standard output could not be written, and whether replies are left that
+-- have no number
+abbrev pub more : State → Bool
+more s = is_more s.next
+
+abbrev pub unwritten : State → Bool
+unwritten s = is_unwritten s.next
+
+abbrev pub spent : State → Bool
+spent s = is_spent s.next
+
 -- a pair waits, and has a number
 abbrev pub pair_waits : State → List ℕ → List ℕ → Bool
 pair_waits s first second =
     goes s.number s.first.ended (waiting s.first first) s.second.ended (waiting s.second second)
 
 -- a turn that makes no line: the same number, with these files
-abbrev pub state_of : State → Feed → Feed → Bool → Bool → State
-state_of s first second more spent =
-    record {
-      number = s.number;
-      first = first;
-      second = second;
-      made = 0;
-      more = more;
-      unwritten = false;
-      spent = spent;
-    }
+abbrev pub state_of : State → Feed → Feed → Next → State
+state_of s first second next = record { number = s.number; first = first; second = second; made = 0; next = next }
+
+-- the run goes on behind a read that did not fail
+abbrev pub behind_read : Feed → Next
+behind_read f = cond f.failed Next.Unread Next.More
 
 -- What is done where no pair is compared: a file of which neither a reply nor the end waits is read on, the first
 -- before the second; else the run ends, and it is spent where replies are left, which have no number
 abbrev pub Goes : Bool → Bool → State → List ℕ → List ℕ → State → List ℕ → List ℕ → Type 0
 Goes false b s first second r first' second' =
     Fed s.first first r.first first' × (second' ≡ second)
-    × (r ≡ state_of s r.first s.second (not r.first.failed) false)
+    × (r ≡ state_of s r.first s.second (behind_read r.first))
 Goes true false s first second r first' second' =
     Fed s.second second r.second second' × (first' ≡ first)
-    × (r ≡ state_of s s.first r.second (not r.second.failed) false)
+    × (r ≡ state_of s s.first r.second (behind_read r.second))
 Goes true true s first second r first' second' =
     (first' ≡ first) × (second' ≡ second)
-    × (r ≡ state_of s s.first s.second false (some_left (size_in s.first first) (size_in s.second second)))
+    × (r ≡ state_of s s.first s.second (cond (some_left (size_in s.first first) (size_in s.second second)) Next.Spent Next.End))
 
 abbrev pub Went : State → List ℕ → List ℕ → State → List ℕ → List ℕ → Type 0
 Went s first second =
@@ -82,7 +90,7 @@ pub record Turned (s : State) (first second output : List ℕ) (r : State)
   pub compares : pair_waits s first second ≡ true
       → (0 < length firsts + length seconds) × Unread s.first r.first first'
       × Unread s.second r.second second'
-      × (r.more ≡ not r.unwritten) × (r.spent ≡ false)
+      × (more r ≡ not (unwritten r)) × (spent r ≡ false)
   -- where none does, the file that is waited for is read on; a file has ended only where that brought nothing, and the
   -- run ends only where none is waited for or it can't be read
   pub reads : pair_waits s first second ≡ false → (firsts ≡ []) × (seconds ≡ []) × Went s first second r first' second'
@@ -122,12 +130,12 @@ pub record Starts (first-fd second-fd : ℤ) (s : Stand) : Type 0 where
   pub number : s.state.number ≡ 0
   pub first : s.state.first ≡ unread first-fd
   pub second : s.state.second ≡ unread second-fd
-  pub more : s.state.more ≡ true
+  pub more : more s.state ≡ true
 
 -- and goes on turn by turn
 abbrev pub Turning : Stand → Stand → Type 0
 Turning b s =
-    (b.state.more ≡ true)
+    (more b.state ≡ true)
     × Turned b.state b.first b.second b.output s.state s.first s.second s.output
 
 -- All that was read so far, R of the first file and A of the second, is replies that were compared and what still
@@ -158,6 +166,6 @@ pub record Compares (first-fd second-fd : ℤ) (s : Stand) : Type 0 where
   pub so_far : Comparing s R A W
   -- and W IS THE LINES OF R AND A, and both files have ended, where the run ended, both could be read, all could be
   -- written and there was a number for each reply
-  pub all : s.state.more ≡ false → s.state.first.failed ≡ false → s.state.second.failed ≡ false
-      → s.state.unwritten ≡ false → s.state.spent ≡ false
+  pub all : more s.state ≡ false → s.state.first.failed ≡ false → s.state.second.failed ≡ false
+      → unwritten s.state ≡ false → spent s.state ≡ false
       → (W ≡ compared_text R A) × (s.state.first.ended ≡ true) × (s.state.second.ended ≡ true)

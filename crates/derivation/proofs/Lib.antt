@@ -1,6 +1,5 @@
 pub mod Pad
 pub mod Mask
-pub mod Narrowing
 pub mod ByClass
 pub mod Splitting
 pub mod Numbered

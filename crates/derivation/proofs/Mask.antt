@@ -7,7 +7,7 @@ use lib.Arith.{digits_mod}
 use lib.Bits.{bit_and, and_mask}
 use lib.Pow.{pow_pos, pow-add, pow_mono}
 use lib.IntN.{ℤ, pos, negsuc}
-use mir.Syntax.{Width}
+use mir.Syntax.{Width, w32}
 use mir.Val.{SFits, of_z, bits}
 use mir.ValLaws.{half_full}
 use Rattle.paper.specs.Poc.{mod_z}
@@ -34,6 +34,10 @@ bits_mod w k (negsuc n) l f =
 
 pub mask_is : (w : Width) (k : ℕ) (z : ℤ) → k ≤ bits w → SFits w z → bit_and (of_z w z) (2 ^ k - 1) ≡ mod_z z (2 ^ k)
 mask_is w k z l f = and_mask (of_z w z) k ∙ bits_mod w k z l f
+
+-- the same for M = 2^k as `modulus` gives it, on an i32
+pub masked : (k m : ℕ) (z : ℤ) → SFits w32 z → m ≡ 2 ^ min k 16 → bit_and (of_z w32 z) (m - 1) ≡ mod_z z (2 ^ min k 16)
+masked k m z f e = rw (e, mask_is w32 (min k 16) z (omega (arith, min-le_right k 16)) f)
 
 -- 1 ≤ M ≤ 65536, for every k
 pub pow_most : (k : ℕ) → 2 ^ min k 16 ≤ 65536

@@ -11,6 +11,8 @@ use lib.Dec.{ltb, leb}
 use borrow.Author.Tests.{ltb-true, ltb-false, leb-true, leb-false, lt-ltb, le-leb}
 use lib.ListN.{length, get_or, take, drop, set, length-append, length-take, length-drop, length-map, take-append-drop, get_or-append, get_or-eq_default, get_or-map}
 use lib.Seq.{take-add, take_at, drop_at, take-suc, take-length, get_or-take, get_or_at, get_or-append-add}
+use mir.Val.{bool_byte}
+use Rattle.std.specs.List.{list_any}
 use Rattle.paper.specs.declared.Serial.{Serial}
 use Rattle.paper.specs.Words.{table, any_b}
 use Rattle.paper.specs.Numbers.{missing, a_serial}
@@ -18,7 +20,6 @@ use Rattle.paper.specs.State as State
 use Rattle.paper.specs.RefLists.{own_of, candidates0, candidates1, placed}
 use Rattle.paper.proofs.Bools.{split, both, left, right, or_left, or_right}
 use Rattle.paper.proofs.Fits.{table_length}
-use Rattle.paper.proofs.Places.{at_cons, at_end}
 use Rattle.derivation.specs.declared.ref_lists.Refs.{Refs}
 use Rattle.derivation.specs.declared.ref_lists.RefList.{RefList}
 use Rattle.derivation.specs.Pad.{Padded}
@@ -45,6 +46,11 @@ module _ (xs : List ℕ) (r : Refs) (h : length xs ≡ 16) where
 own_length : (own : Bool) (c : Serial) → length (own_of own c) ≡ cond own 1 0
 own_length true c = refl
 own_length false c = refl
+
+-- the flag as a number
+pub own_byte : (own : Bool) → (bool_byte own ≡ cond own 1 0) × (bool_byte own ≤ 1)
+own_byte true = (refl, omega arith)
+own_byte false = (refl, omega arith)
 
 module _ (x : State.Refs) (own : Bool) (c : Serial) where
   pub length_0 : length (candidates0 x own c) ≡ length x.before + length x.after + length x.lt_curr + cond own 1 0
@@ -196,19 +202,11 @@ placed_is cs c true es n active e h bytes below =
     ∙ ap (map (λ (i : ℕ). get_or cs i c)) (take-length es)
     ∙ map_entries cs c missing es (below refl))
 
--- ---- an entry that is too large, from a place on
-module _ (f : ℕ → Bool) (es : List ℕ) (i : ℕ) where
-  pub any_hit : i < length es → f (get_or es i 0) ≡ true → any_b f (drop i es) ≡ true
-  unfolding any_b
-  any_hit lt w = rw (at_cons es i 0 lt, w)
-
-  pub any_miss : i < length es → f (get_or es i 0) ≡ false → any_b f (drop (i + 1) es) ≡ any_b f (drop i es)
-  unfolding any_b
-  any_miss lt w = rw (at_cons es i 0 lt, w)
-
-  pub any_end : length es ≤ i → any_b f (drop i es) ≡ false
-  unfolding any_b
-  any_end le = rw (at_end es i le)
+-- ---- an entry that is too large: the paper's test of a list is std's
+pub any_is : {A : Type 0} (f : A → Bool) (xs : List A) → list_any f xs ≡ any_b f xs
+unfolding any_b
+any_is f [] = refl
+any_is f (x ∷ xs) = ap (λ (b : Bool). f x || b) (any_is f xs)
 
 -- ---- the counted candidates are those of either list
 pub count_is : {x : State.Refs} {own : Bool} {n : ℕ} (second : Bool) (c : Serial) → CandidateCount x own n → n ≡ length (candidates_of x own second c)
@@ -265,8 +263,8 @@ holds_more f {items} j s h k e =
     subst (Padded 16 blank_serial (set items j s) (j + 1)) q (is_push h s k)
 
 -- the last place is written
-pub holds_last : (l : RefList) (xs : List Serial) (n : ℕ) (s : Serial) → HoldsList l xs → l.len ≡ n → 1 ≤ n → Padded 16 blank_serial (set l.items (l.len - 1) s) l.len (set xs (n - 1) s)
-holds_last l xs n s h e least = rw (← e) (is_set h (l.len - 1) s (omega arith))
+pub holds_last : (l : RefList) (xs : List Serial) (n : ℕ) (s : Serial) → HoldsList l xs → l.len ≡ n → 1 ≤ n → Padded 16 blank_serial (set l.items (n - 1) s) l.len (set xs (n - 1) s)
+holds_last l xs n s h e least = is_set h (n - 1) s (omega arith)
 
 -- ---- a run that begins with three lists, with their lengths as its counts
 module _ {A B : Type 0} (f : A → B) where

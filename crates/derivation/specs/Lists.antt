@@ -48,10 +48,6 @@ no_list = record { items = replicate 16 blank_serial; len = 0 }
 unfoldable pub candidates_of : State.Refs → Bool → Bool → Serial → List Serial
 candidates_of x own second c = cond second (candidates1 x own c) (candidates0 x own c)
 
--- s is the candidate at i, where behind all candidates stands the current picture
-abbrev pub StandsAt : State.Refs → Bool → Serial → ℕ → Serial → Type 0
-StandsAt x second c i s = (own : Bool) → s ≡ get_or (candidates_of x own second c) i c
-
 abbrev pub ask_of : ℕ → Bool → List ℕ → ListAsk
 ask_of active modify es = record { uses = true; active = active; modify = modify; entries = es }
 

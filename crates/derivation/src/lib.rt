@@ -9,15 +9,10 @@ pub mod ranges;
 pub mod ref_lists;
 pub mod wishes;
 
-ghost use Rattle.std.specs.Prelude.{◌≡◌, min};
-
 // The greatest capacity of a store, and so the most entries of a begin, members of the sets and
 // places of a list. Written here, below all that use it; `Store::CAPACITY` is its name above.
 pub const CAPACITY: usize = 16;
 
-// The lesser of a count and the room that is left.
-pub fn fewer(n: usize, room: usize) -> usize
-    ensures { result ≡ min n room }
-{
-    if n < room { n } else { room }
-}
+// A POC or an MSB lies outside i32.
+#[derive(Clone, Copy, PartialEq, Eq, Debug)]
+pub struct Outside;

@@ -3,15 +3,8 @@
 ghost use Rattle.std.specs.Prelude.{◌≡◌, ℕ, ◌<◌, ◌≤◌, length, get_or};
 ghost use Rattle.derivation.specs.Lists.{serial_at, serials_in, members_of};
 
-use crate::{CAPACITY, fewer};
+use crate::CAPACITY;
 use paper::Serial;
-
-// Proof helper: states that the array has 16 words; compiles to nothing.
-pub fn count_sets(words: [u32; CAPACITY]) -> usize
-    ensures { (result ≡ 16) × (length words ≡ 16) }
-{
-    CAPACITY
-}
 
 // The member at a place of the run.
 pub(crate) fn member(sets: &[u32; CAPACITY], i: usize) -> Serial
@@ -28,12 +21,7 @@ pub fn put_members(sets: &mut [u32; CAPACITY], xs: [Serial; CAPACITY], n: usize)
     ensures behind { (i : ℕ) → n ≤ i → get_or sets.new i 0 ≡ get_or sets.old i 0 }
     ensures long { length sets.new ≡ 16 }
 {
-    count_sets(*sets);
-    let most = fewer(n, CAPACITY);
-    let mut i: usize = 0;
-    while i < most {
-        let x = xs[i];
-        sets[i] = x.0;
-        i += 1;
+    for i in 0..n.min(CAPACITY) {
+        sets[i] = xs[i].0;
     }
 }

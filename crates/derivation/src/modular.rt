@@ -3,65 +3,44 @@ ghost use Rattle.std.specs.Prelude.{◌≡◌, cond, [], ◌∷◌, ◌^◌, min
 ghost use Rattle.paper.specs.Poc.{mod_z, in32};
 ghost use Rattle.derivation.specs.Answers.{narrow_of, number_of_narrow, values_of_narrow};
 
-use crate::CAPACITY;
+use crate::{CAPACITY, Outside};
 
 // The greatest k: "k 4 to 16".
 pub const MOST_BITS: u8 = 16;
-
-// The lesser of two numbers.
-fn lesser(n: u8, most: u8) -> u8
-    ensures { result ≡ min n most }
-{
-    if n < most { n } else { most }
-}
 
 // k, or the greatest k where it is more.
 pub fn taken_bits(k: u8) -> u8
     ensures { result ≡ min k 16 }
 {
-    lesser(k, MOST_BITS)
+    k.min(MOST_BITS)
 }
 
 // A capacity as it is taken: "more than 16 is taken as 16".
 pub fn taken_capacity(n: u8) -> u8
     ensures { result ≡ min n 16 }
 {
-    lesser(n, CAPACITY as u8)
+    n.min(CAPACITY as u8)
 }
 
 // M = 2^k (MaxPicOrderCntLsb, 7.4.3.2.1), a k over 16 taken as 16.
 pub fn modulus(k: u8) -> u32
     ensures { result ≡ 2 ^ (min k 16) }
 {
-    1 << (taken_bits(k) as u32)
+    1 << u32::from(taken_bits(k))
 }
 
 // POC mod M by the mask M - 1: "The remainder of a negative POC is the low k bits, never negative."
 pub fn low_bits(k: u8, poc: i32) -> u32
     ensures { result ≡ mod_z poc (2 ^ (min k 16)) }
 {
-    let mask = (modulus(k) - 1) as i32;
-    (poc & mask) as u32
-}
-
-// A whole number, if an i32 holds it.
-#[derive(Clone, Copy)]
-pub enum Narrow {
-    In(i32),
-    Outside,
+    poc.cast_unsigned() & (modulus(k) - 1)
 }
 
 // The number as an i32, or that it lies outside.
-pub fn narrowed(z: i64) -> Narrow
+pub fn narrowed(z: i64) -> Result<i32, Outside>
     ensures answer { result ≡ narrow_of z }
     ensures number { number_of_narrow result ≡ cond (in32 z) 0 6 }
     ensures values { number_of_narrow result ≡ 0 → values_of_narrow result ≡ z ∷ [] }
 {
-    if z < -2147483648 {
-        return Narrow::Outside;
-    }
-    if z > 2147483647 {
-        return Narrow::Outside;
-    }
-    Narrow::In(z as i32)
+    i32::try_from(z).map_err(|_| Outside)
 }

@@ -8,7 +8,7 @@ ghost use Rattle.derivation.specs.Classes.{prev_in};
 ghost use Rattle.derivation.specs.declared.nal.NalClass.{NalClass};
 
 // The class of a NAL type; `Refused` is a type that is not taken.
-#[derive(Clone, Copy)]
+#[derive(Clone, Copy, PartialEq, Eq)]
 pub enum NalClass {
     Idr,
     Bla,
@@ -17,6 +17,61 @@ pub enum NalClass {
     Rasl,
     Other,
     Refused,
+}
+
+impl NalClass {
+    // Whether a class is taken.
+    fn is_taken(self) -> bool
+        ensures { result ≡ taken_in self }
+    {
+        self != NalClass::Refused
+    }
+
+    // Whether a class is IRAP.
+    fn is_irap(self) -> bool
+        ensures { result ≡ irap_in self }
+    {
+        matches!(self, NalClass::Idr | NalClass::Bla | NalClass::Cra)
+    }
+
+    // Whether a class is IDR.
+    fn is_idr(self) -> bool
+        ensures { result ≡ idr_in self }
+    {
+        self == NalClass::Idr
+    }
+
+    // Whether a class is CRA.
+    fn is_cra(self) -> bool
+        ensures { result ≡ cra_in self }
+    {
+        self == NalClass::Cra
+    }
+
+    // Whether a class is RASL.
+    fn is_rasl(self) -> bool
+        ensures { result ≡ rasl_in self }
+    {
+        self == NalClass::Rasl
+    }
+
+    // Whether a class begins anew: IDR, BLA, or CRA first in the bitstream.
+    fn is_no_rasl(self, at_start: bool) -> bool
+        ensures { result ≡ no_rasl_in self at_start }
+    {
+        match self {
+            NalClass::Idr | NalClass::Bla => true,
+            NalClass::Cra => at_start,
+            _ => false,
+        }
+    }
+
+    // Whether a class lets a picture be prevTid0Pic.
+    fn may_be_prev(self, non_reference: bool) -> bool
+        ensures { result ≡ prev_in self non_reference }
+    {
+        !matches!(self, NalClass::Radl | NalClass::Rasl) & !non_reference
+    }
 }
 
 // The class of a type: "Types 0 to 9 and 16 to 21 are taken" (Table 7-1).
@@ -36,129 +91,39 @@ pub fn nal_class(t: u8) -> NalClass
     }
 }
 
-// Whether a class is taken.
-fn class_taken(class: NalClass) -> bool
-    ensures { result ≡ taken_in class }
-{
-    match class {
-        NalClass::Idr => true,
-        NalClass::Bla => true,
-        NalClass::Cra => true,
-        NalClass::Radl => true,
-        NalClass::Rasl => true,
-        NalClass::Other => true,
-        NalClass::Refused => false,
-    }
-}
-
 // Whether a type is taken.
 pub fn is_taken(t: u8) -> bool
     ensures { result ≡ taken t }
 {
-    class_taken(nal_class(t))
-}
-
-// Whether a class is IRAP.
-fn class_irap(class: NalClass) -> bool
-    ensures { result ≡ irap_in class }
-{
-    match class {
-        NalClass::Idr => true,
-        NalClass::Bla => true,
-        NalClass::Cra => true,
-        NalClass::Radl => false,
-        NalClass::Rasl => false,
-        NalClass::Other => false,
-        NalClass::Refused => false,
-    }
+    nal_class(t).is_taken()
 }
 
 // Whether a type is IRAP: "IRAP 16 to 21".
 pub fn is_irap(t: u8) -> bool
     ensures { result ≡ irap t }
 {
-    class_irap(nal_class(t))
-}
-
-// Whether a class is IDR.
-fn class_idr(class: NalClass) -> bool
-    ensures { result ≡ idr_in class }
-{
-    match class {
-        NalClass::Idr => true,
-        NalClass::Bla => false,
-        NalClass::Cra => false,
-        NalClass::Radl => false,
-        NalClass::Rasl => false,
-        NalClass::Other => false,
-        NalClass::Refused => false,
-    }
+    nal_class(t).is_irap()
 }
 
 // Whether a type is IDR: "IDR 19 and 20".
 pub fn is_idr(t: u8) -> bool
     ensures { result ≡ idr t }
 {
-    class_idr(nal_class(t))
-}
-
-// Whether a class is CRA.
-fn class_cra(class: NalClass) -> bool
-    ensures { result ≡ cra_in class }
-{
-    match class {
-        NalClass::Idr => false,
-        NalClass::Bla => false,
-        NalClass::Cra => true,
-        NalClass::Radl => false,
-        NalClass::Rasl => false,
-        NalClass::Other => false,
-        NalClass::Refused => false,
-    }
-}
-
-// Whether a class is RASL.
-fn class_rasl(class: NalClass) -> bool
-    ensures { result ≡ rasl_in class }
-{
-    match class {
-        NalClass::Idr => false,
-        NalClass::Bla => false,
-        NalClass::Cra => false,
-        NalClass::Radl => false,
-        NalClass::Rasl => true,
-        NalClass::Other => false,
-        NalClass::Refused => false,
-    }
-}
-
-// Whether a class begins anew: IDR, BLA, or CRA first in the bitstream.
-fn class_no_rasl(class: NalClass, at_start: bool) -> bool
-    ensures { result ≡ no_rasl_in class at_start }
-{
-    match class {
-        NalClass::Idr => true,
-        NalClass::Bla => true,
-        NalClass::Cra => at_start,
-        NalClass::Radl => false,
-        NalClass::Rasl => false,
-        NalClass::Other => false,
-        NalClass::Refused => false,
-    }
+    nal_class(t).is_idr()
 }
 
 // NoRaslOutputFlag (8.1.3): "IDR, BLA, CRA first in the bitstream, or any type first after end of sequence".
 pub fn no_rasl_output(t: u8, at_start: bool, ended: bool) -> bool
     ensures { result ≡ no_rasl_output t at_start ended }
 {
-    class_no_rasl(nal_class(t), at_start) | ended
+    nal_class(t).is_no_rasl(at_start) | ended
 }
 
 // PicOutputFlag (C.5.2.2): "0 for RASL with this flag, else as given".
 pub fn pic_output(t: u8, no_rasl: bool, given: bool) -> bool
     ensures { result ≡ pic_output t no_rasl given }
 {
-    given & !(class_rasl(nal_class(t)) & no_rasl)
+    given & !(nal_class(t).is_rasl() & no_rasl)
 }
 
 // NoOutputOfPriorPicsFlag (C.5.2.2): "IRAP with NoRaslOutputFlag, not first in the bitstream, and CRA or flagged".
@@ -166,7 +131,7 @@ pub fn no_prior_output(t: u8, no_rasl: bool, at_start: bool, flagged: bool) -> b
     ensures { result ≡ no_prior_output t no_rasl at_start flagged }
 {
     let class = nal_class(t);
-    class_irap(class) & no_rasl & !at_start & (class_cra(class) | flagged)
+    class.is_irap() & no_rasl & !at_start & (class.is_cra() | flagged)
 }
 
 // Whether a type is sub-layer non-reference: "0, 2, 4, 6, 8".
@@ -176,24 +141,9 @@ fn non_reference(t: u8) -> bool
     (t <= 8) & (t % 2 == 0)
 }
 
-// Whether a class lets a picture be prevTid0Pic.
-fn class_prev(class: NalClass, non_reference: bool) -> bool
-    ensures { result ≡ prev_in class non_reference }
-{
-    match class {
-        NalClass::Idr => !non_reference,
-        NalClass::Bla => !non_reference,
-        NalClass::Cra => !non_reference,
-        NalClass::Radl => false,
-        NalClass::Rasl => false,
-        NalClass::Other => !non_reference,
-        NalClass::Refused => !non_reference,
-    }
-}
-
 // Valid for prevTid0Pic (8.3.1): "temporal id 0, not RASL, RADL or sub-layer non-reference".
 pub fn valid_prev(t: u8, tid: u8) -> bool
     ensures { result ≡ valid_prev t tid }
 {
-    (tid == 0) & class_prev(nal_class(t), non_reference(t))
+    (tid == 0) & nal_class(t).may_be_prev(non_reference(t))
 }

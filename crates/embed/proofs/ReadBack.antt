@@ -20,8 +20,6 @@ use Rattle.paper.specs.declared.Serial.{Serial}
 use Rattle.paper.specs.declared.Mark.TheVariants.{Unmarked}
 use Rattle.paper.specs.declared.Picture.{Picture}
 use Rattle.paper.specs.declared.Limits.{Limits}
-use Rattle.paper.specs.declared.Prev.{Prev}
-use Rattle.paper.specs.declared.Now.{Now}
 use Rattle.derivation.specs.Lists.{refs_in}
 use Rattle.derivation.proofs.Runs.{refs_are, table_is}
 use Rattle.wire.proofs.Flat.{length_flat}
@@ -30,6 +28,9 @@ use Rattle.store.proofs.StoreWords.{flag_back, own_words}
 use Rattle.session.specs.View.{Front, front_in, limits_at, prev_at, now_at, refs_at, session_of, session_in}
 use Rattle.embed.specs.Layout.{filled, store_words_of, sets_of, memory_of, LimitsFit, PrevFits, NowFits, PocsFit, Fitting}
 use Rattle.session.specs.Laid.{limits_words, prev_words, now_words, size_words, front_words, sizes_of, front_of, front_words_of}
+use Rattle.std.proofs.Common.{Option, None, Some}
+use Rattle.paper.specs.declared.Tid0.{Tid0}
+use Rattle.paper.specs.declared.Current.{Current}
 
 -- ---- lists by their elements
 
@@ -109,13 +110,13 @@ sets_back x le =
 
 -- ---- the words beside them, each part where it stands: what comes before it does not matter
 
-prev_back : (q : Prev) → PrevFits q → prev_at (replicate 9 0 ++ prev_words q) ≡ q
-prev_back Prev.Nothing f = refl
-prev_back (Prev.Tid0 lsb msb) f = rw (mod-eq_of_lt f.0, to_z-of_z w32 msb f.1)
+prev_back : (q : Option Tid0) → PrevFits q → prev_at (replicate 9 0 ++ prev_words q) ≡ q
+prev_back None f = refl
+prev_back (Some p) f = rw (mod-eq_of_lt f.0, to_z-of_z w32 p.msb f.1)
 
-now_back : (n : Now) → NowFits n → now_at (replicate 12 0 ++ now_words n) ≡ n
-now_back Now.Idle f = refl
-now_back (Now.Is c) f = rw (to_z-of_z w32 c.poc f.poc, mod-eq_of_lt f.lsb, to_z-of_z w32 c.msb f.msb, flag_back c.output, flag_back c.valid)
+now_back : (n : Option Current) → NowFits n → now_at (replicate 12 0 ++ now_words n) ≡ n
+now_back None f = refl
+now_back (Some c) f = rw (to_z-of_z w32 c.poc f.poc, mod-eq_of_lt f.lsb, to_z-of_z w32 c.msb f.msb, flag_back c.output, flag_back c.valid)
 
 sizes_back : (x : P.Refs) → length (all_refs x) ≤ 16 → refs_at (replicate 20 0 ++ size_words (sizes_of x)) ≡ sizes_of x
 sizes_back x le =

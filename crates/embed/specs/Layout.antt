@@ -8,12 +8,12 @@ use Rattle.paper.specs.State.{all_refs}
 use Rattle.paper.specs.State as P
 use Rattle.paper.specs.declared.Picture.{Picture}
 use Rattle.paper.specs.declared.Limits.{Limits}
-use Rattle.paper.specs.declared.Prev.{Prev}
 use Rattle.paper.specs.declared.Current.{Current}
-use Rattle.paper.specs.declared.Now.{Now}
 use Rattle.store.specs.StoreWords.{picture_words}
 use Rattle.session.specs.View.{Memory, memory}
 use Rattle.session.specs.Laid.{front_words_of}
+use Rattle.std.specs.Prelude.{Option, None, Some}
+use Rattle.paper.specs.declared.Tid0.{Tid0}
 
 -- zeros behind a run, up to n words
 abbrev pub filled : ℕ → List ℕ → List ℕ
@@ -42,18 +42,18 @@ pub record LimitsFit (l : Limits) : Type 0 where
   pub reorder : l.reorder < 256
   pub latency : l.latency < 65536
 
-abbrev pub PrevFits : Prev → Type 0
-PrevFits Prev.Nothing = Unit {0}
-PrevFits (Prev.Tid0 lsb msb) = (lsb < 65536) × SFits w32 msb
+abbrev pub PrevFits : Option Tid0 → Type 0
+PrevFits None = Unit {0}
+PrevFits (Some p) = (p.lsb < 65536) × SFits w32 p.msb
 
 pub record CurrentFits (c : Current) : Type 0 where
   pub poc : SFits w32 c.poc
   pub lsb : c.lsb < 65536
   pub msb : SFits w32 c.msb
 
-abbrev pub NowFits : Now → Type 0
-NowFits Now.Idle = Unit {0}
-NowFits (Now.Is c) = CurrentFits c
+abbrev pub NowFits : Option Current → Type 0
+NowFits None = Unit {0}
+NowFits (Some c) = CurrentFits c
 
 abbrev pub PocsFit : List Picture → Type 0
 PocsFit [] = Unit {0}

@@ -5,6 +5,7 @@ use Rattle.session.specs.View.{Memory}
 use Rattle.session.specs.Laid.{NormalMemory}
 use Rattle.session.specs.Said.{Permitted}
 use Rattle.pool.specs.declared.Given.{Given}
+use Rattle.pool.specs.Pool.{surface_at}
 use Rattle.pool.specs.Memory.{PoolMemory}
 use Rattle.pool.specs.Said as Pool
 
@@ -34,8 +35,9 @@ Stepped m r before number len left after = Permitted m r before (answer_of numbe
 abbrev pub pool_words : ℕ
 pool_words = 3
 
+-- the surface is told by its number, 64 for none
 abbrev pub given_of : ℕ → ℕ → ℕ → Given
-given_of number len surface = record { number = number; len = len; surface = surface }
+given_of number len surface = record { number = number; len = len; surface = surface_at surface }
 
 -- a call on the pool in memory m: what the contract of the pool's `step` permits
 abbrev pub PoolStepped : PoolMemory → List ℕ → List ℕ → ℕ → ℕ → ℕ → PoolMemory → List ℕ → Type 0

@@ -37,6 +37,7 @@ pub extern "C" fn trusshemp_layout() -> u32
 
 // Whether the memory is a session in the normal form, by 1 or 0: what `trusshemp_fresh_in` makes and every call keeps.
 // Any words may be given; those of the sets do not matter.
+// Kept: the C interface: a truth value is 0 or 1, and the session's words are lent as three runs.
 #[unsafe(no_mangle)]
 pub extern "C" fn trusshemp_is_normal_in(
     front: &[u32; FRONT],
@@ -45,11 +46,11 @@ pub extern "C" fn trusshemp_is_normal_in(
 ) -> u16
     ensures { SaysNormal result (memory front.now sets.now store.now) }
 {
-    let normal = session::is_normal(front, sets, store);
-    if normal { 1 } else { 0 }
+    u16::from(session::is_normal(front, sets, store))
 }
 
 // Makes the memory a fresh session, whatever it held.
+// Kept: the C interface: the session's words are lent as three runs.
 #[unsafe(no_mangle)]
 pub extern "C" fn trusshemp_fresh_in(
     front: &mut [u32; FRONT],
@@ -66,6 +67,7 @@ pub extern "C" fn trusshemp_fresh_in(
 
 // One call: the record gets its reply, `length` the reply's length in bytes, and the answer is the refusal number, 0
 // when accepted. A refused record leaves the memory as it was.
+// Kept: the C interface: a refusal is a number, the length an out parameter, and the words are lent as three runs.
 #[unsafe(no_mangle)]
 pub extern "C" fn trusshemp_step_in(
     front: &mut [u32; FRONT],
@@ -94,6 +96,7 @@ pub extern "C" fn trusshemp_pool_size() -> usize
 
 // Makes the memory a pool of that many surfaces over a fresh session, whatever it held; or answers 20 and leaves it as
 // it was.
+// Kept: the C interface: a refusal is a number, and the words of the pool and of the session are lent apart.
 #[unsafe(no_mangle)]
 pub extern "C" fn trusshemp_pool_make_in(
     pool: &mut [u64; pool::WORDS],
@@ -107,11 +110,12 @@ pub extern "C" fn trusshemp_pool_make_in(
         surfaces result
         (pool_memory pool.new (memory front.new sets.new store.new)) }
 {
-    pool::make(pool, front, sets, store, surfaces)
+    pool::number(pool::make(pool, front, sets, store, surfaces))
 }
 
 // One call of the pool: as `trusshemp_step_in`, but the pool chooses the surface of a begin, and `surface` is the one
 // that it chose, or 64 where no begin was accepted. A refused record leaves the memory as it was.
+// Kept: the C interface: a refusal and no surface are numbers, length and surface out parameters, the words lent apart.
 #[unsafe(no_mangle)]
 pub extern "C" fn trusshemp_pool_step_in(
     pool: &mut [u64; pool::WORDS],
@@ -131,15 +135,16 @@ pub extern "C" fn trusshemp_pool_step_in(
 {
     let g = pool::step(pool, front, sets, store, msg, reply);
     *length = g.len;
-    *surface = g.surface;
+    *surface = pool::surface_number(g.surface);
     g.number
 }
 
 // The display gives a picture on that surface back: the answer is 0, or 19, which leaves the words as they were. The
 // session is not lent.
+// Kept: the C interface: a refusal is a number.
 #[unsafe(no_mangle)]
 pub extern "C" fn trusshemp_pool_return_in(pool: &mut [u64; pool::WORDS], surface: u32) -> u16
     ensures { GivesBack pool.old surface result pool.new }
 {
-    pool::give_back(pool, surface)
+    pool::number(pool::give_back(pool, surface))
 }

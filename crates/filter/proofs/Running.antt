@@ -15,7 +15,7 @@ use Rattle.stream.proofs.Laying.{put_front}
 use Rattle.stream.proofs.Running.{Reached, waits_or_not, at_end, by_turns}
 use Rattle.filter.specs.declared.After.{After}
 use Rattle.filter.specs.Machine.{Machine, outs, state_after}
-use Rattle.filter.specs.Turns.{Turned, Stand, waiting, read_in, written_in, Starts, Turns, Serves}
+use Rattle.filter.specs.Turns.{more, unwritten, Turned, Stand, waiting, read_in, written_in, Starts, Turns, Serves}
 use Rattle.filter.proofs.Answering.{outs_append, after_append}
 
 -- ---- so far
@@ -50,18 +50,18 @@ said_on {S} M s₀ R W b s g n =
 -- ---- the end
 
 -- a turn that ends the run, and not because of the output, leaves no whole message
-turn_ends : {S : Type 0} {M : Machine S} {v v' : S} {held : ℕ} {before written after output : List ℕ} {r : After} → Turned M v held before written v' r after output → r.more ≡ false → r.unwritten ≡ false → size_of (take r.held after) ≡ 0
+turn_ends : {S : Type 0} {M : Machine S} {v v' : S} {held : ℕ} {before written after output : List ℕ} {r : After} → Turned M v held before written v' r after output → more r ≡ false → unwritten r ≡ false → size_of (take r.held after) ≡ 0
 unfolding joined
 turn_ends {held = held} {before = before} {after = after} {r = r} t m u =
     waits_or_not (size_of (take held before))
     (λ z.
     let k = t.reads z in
     none_then size_of held r.held before after z (sym k.1 ∙ m) (t.kept ∙ ap (λ (l : List (List ℕ)). joined l ++ take r.held after) k.0))
-    (λ z. not_both r.more ((t.answers z).2 ∙ ap not u) m)
+    (λ z. not_both (more r) ((t.answers z).2 ∙ ap not u) m)
 
 -- so where the run ends, and not because of the output, none waits
 abbrev NoneWaits : {S : Type 0} → Stand S → Type 0
-NoneWaits s = s.after.more ≡ false → s.after.unwritten ≡ false → size_of (waiting s) ≡ 0
+NoneWaits s = more s.after ≡ false → unwritten s.after ≡ false → size_of (waiting s) ≡ 0
 
 -- THE WHOLE RUN
 pub serves : {S : Type 0} (M : Machine S) (s₀ : S) (s : Stand S) → Reached (Starts s₀) (Turns M) s → Serves M s₀ s
@@ -69,7 +69,7 @@ serves M s₀ s r =
     let turns = r.turns in
     let g = r.ran in
     let f = by_turns read_in written_in (SoFar M s₀) (nothing_said M s₀) (said_on M s₀) turns s g in
-    let e = at_end NoneWaits (λ s b m u. not_both s.after.more b.2 m) (λ b s t. turn_ends t.1) turns s g in
+    let e = at_end NoneWaits (λ s b m u. not_both (more s.after) b.2 m) (λ b s t. turn_ends t.1) turns s g in
     record {
       turns = turns;
       R = through read_in turns s;

@@ -1,3 +1,4 @@
+pub mod Next
 pub mod Machine
 pub mod Answers
 pub mod Turns

@@ -1,28 +1,42 @@
 -- What a turn of a program does that answers each whole message of standard input, and what its whole run does.
-use Rattle.std.specs.Prelude.{ℕ, ◌-◌, ◌<◌, ◌≡◌, List, [], ◌++◌, Bool, true, false, not, ltb, length, take}
+use Rattle.std.specs.Prelude.{ℕ, ◌-◌, ◌<◌, ◌≡◌, List, [], ◌++◌, Bool, true, false, cond, not, ltb, length, take}
 use Rattle.paper.specs.Words.{all_b}
 use Rattle.format.specs.Cut.{size_of, joined, is_whole, cut, rest_of}
-use Rattle.stream.specs.declared.Read.{Read}
+use Rattle.stream.specs.Turns.{Read}
 use Rattle.stream.specs.Laid.{Puts}
 use Rattle.stream.specs.Turns.{Fed, brought, shifted, Ran, through}
 use Rattle.filter.specs.declared.After.{After}
+use Rattle.filter.specs.Next.{is_more, is_unread, is_unwritten}
+use Rattle.filter.specs.declared.Next.{Next}
 use Rattle.filter.specs.declared.Answered.{Answered}
 use Rattle.filter.specs.Machine.{Machine, outs, state_after}
 
+-- whether the run goes on behind a turn, whether standard input could not be read, and whether standard output could
+-- not be written
+abbrev pub more : After → Bool
+more r = is_more r.next
+
+abbrev pub unread : After → Bool
+unread r = is_unread r.next
+
+abbrev pub unwritten : After → Bool
+unwritten r = is_unwritten r.next
+
 -- what a turn gives that only read: the run goes on just where something was read
 abbrev pub fed_by : ℕ → Read → After
-fed_by held r = record { held = r.held; made = 0; more = ltb held r.held; unread = r.failed; unwritten = false }
+fed_by held r =
+    record { held = r.held; made = 0; next = cond r.failed Next.Unread (cond (ltb held r.held) Next.More Next.End) }
 
 -- what a turn gives that answered: the run goes on just where the answers could be written
 abbrev pub gone : ℕ → ℕ → Bool → After
-gone held made more = record { held = held; made = made; more = more; unread = false; unwritten = not more }
+gone held made wrote = record { held = held; made = made; next = cond wrote Next.More Next.Unwritten }
 
 -- What a turn does behind its answers: where none was made it reads on, else it hands them over and cuts off the
 -- messages that were answered
 pub record Went (a : Answered) (held : ℕ) (before : List ℕ) (r : After) (after : List ℕ) : Type 0 where
   pub reads : a.taken ≡ 0 → (x : Read) × Fed held before x after × (r ≡ fed_by held x)
   pub writes : (a.taken ≡ 0 → ⊥)
-      → (after ≡ shifted before a.taken held) × (r ≡ gone (held - a.taken) a.made r.more)
+      → (after ≡ shifted before a.taken held) × (r ≡ gone (held - a.taken) a.made (more r))
 
 -- One turn, from state s. `said` are the messages that it answers. The first `made` bytes of the output, which it hands
 -- to `write_all`, are the answers, and behind them the output is as it was
@@ -37,11 +51,11 @@ pub record Turned {S : Type 0} (M : Machine S) (s : S) (held : ℕ) (before writ
   -- where a whole message waits, that one at least is answered and nothing is read; the run goes on unless the answers
   -- could not be written
   pub answers : 0 < size_of (take held before)
-      → (0 < length said) × (brought held r.held after ≡ []) × (r.more ≡ not r.unwritten) × (r.unread ≡ false)
+      → (0 < length said) × (brought held r.held after ≡ []) × (more r ≡ not (unwritten r)) × (unread r ≡ false)
   -- it reads on only where no whole message waits, so that none is left behind unanswered; the run goes on just where
   -- something was read, which a read that fails never does
   pub reads : size_of (take held before) ≡ 0
-      → (said ≡ []) × (r.more ≡ ltb held r.held) × (r.unwritten ≡ false) × (r.unread ≡ true → r.more ≡ false)
+      → (said ≡ []) × (more r ≡ ltb held r.held) × (unwritten r ≡ false) × (unread r ≡ true → more r ≡ false)
   -- behind a message that is not whole there is room, so no read fails for want of it
   pub room : size_of (take held before) ≡ 0 → held < length before
 
@@ -68,12 +82,12 @@ written_in b s = take s.after.made s.output
 
 -- a run starts in a state, and nothing waits
 abbrev pub Starts : {S : Type 0} → S → Stand S → Type 0
-Starts s₀ s = (s.state ≡ s₀) × (s.after.held ≡ 0) × (s.after.more ≡ true)
+Starts s₀ s = (s.state ≡ s₀) × (s.after.held ≡ 0) × (more s.after ≡ true)
 
 -- and goes on turn by turn
 abbrev pub Turns : {S : Type 0} → Machine S → Stand S → Stand S → Type 0
 Turns M b s =
-    (b.after.more ≡ true)
+    (more b.after ≡ true)
     × Turned M b.state b.after.held b.input b.output s.state s.after s.input s.output
 
 -- THE WHOLE RUN: turns one after the other. R is what their reads brought, one behind the other, and W what they handed
@@ -94,5 +108,5 @@ pub record Serves {S : Type 0} (M : Machine S) (s₀ : S) (s : Stand S) : Type 0
   pub state : s.state ≡ state_after M s₀ said
   -- W IS THE ANSWERS TO THE WHOLE MESSAGES OF R, where it ends because no more is read: "an incomplete last record ends
   -- the run without a reply"
-  pub all : s.after.more ≡ false → s.after.unwritten ≡ false
+  pub all : more s.after ≡ false → unwritten s.after ≡ false
       → (W ≡ joined (outs M s₀ (cut R))) × (waiting s ≡ rest_of R)

@@ -1,5 +1,6 @@
 pub mod Fitting
 pub mod Ends
 pub mod Cutting
-pub mod Reading
 pub mod Tails
+pub mod Numbered
+pub mod Single

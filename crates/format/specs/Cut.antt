@@ -1,11 +1,16 @@
 -- A stream of records or of replies, cut by their heads.
-use Rattle.std.specs.Prelude.{ℕ, zero, suc, ◌+◌, List, [], ◌∷◌, ◌++◌, Bool, cond, length, take, drop, leb, eqb}
+use Rattle.std.specs.Prelude.{ℕ, zero, suc, ◌≡◌, ◌+◌, ◌<◌, List, [], ◌∷◌, ◌++◌, Bool, cond, length, take, drop, leb, eqb}
+use Rattle.std.specs.Prelude.{Option, MatchOption}
 use Rattle.paper.specs.Kinds.{body_place}
 use Rattle.paper.specs.Records.{length_of}
 
 -- "u16 body length, u16 kind, body": the size of the first one of these bytes, 0 where some of it is not there
 abbrev pub size_of : List ℕ → ℕ
 size_of l = cond (leb body_place (length l)) (cond (leb (body_place + length_of l) (length l)) (body_place + length_of l) 0) 0
+
+-- the same where it is all there, and none where some of it is not
+abbrev pub WholeIn : List ℕ → Option ℕ → Type 0
+WholeIn l r = MatchOption r (size_of l ≡ 0) (λ n. (n ≡ size_of l) × (0 < n))
 
 -- one after the other, nothing between
 unfoldable pub joined : List (List ℕ) → List ℕ

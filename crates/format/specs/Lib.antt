@@ -1,3 +1,4 @@
 pub mod Cut
 pub mod Counts
 pub mod Reads
+pub mod Kind

@@ -1,15 +1,11 @@
 -- A record as the readers answer it.
-use Rattle.std.specs.Prelude.{ℕ, ◌≡◌, List, cond}
+use Rattle.std.specs.Prelude.{ℕ, ◌≡◌, List}
 use Rattle.paper.specs.Numbers.{u8, u16, u32, a_surface}
 use Rattle.paper.specs.Kinds.{nal_place, tid_place, begin_flags_place, lsb_place, surface_place, neg_place, pos_place, lt_place}
-use Rattle.paper.specs.Records.{ListAsk, Slice, kind_of, well_formed}
+use Rattle.paper.specs.Records.{ListAsk, Slice}
 use Rattle.format.specs.declared.records.BeginFields.{BeginFields}
 use Rattle.format.specs.declared.records.Ask.{Ask}
 use Rattle.format.specs.declared.records.SliceFields.{SliceFields}
-
--- the kind of a well-formed record, else 0
-unfoldable pub kind_in : List ℕ → ℕ
-kind_in r = cond (well_formed r) (kind_of r) 0
 
 -- the fields of a begin before its entries
 abbrev pub begin_fields : List ℕ → BeginFields

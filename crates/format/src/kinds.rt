@@ -1,41 +1,72 @@
 // Records and replies in bytes, as document 01 has them: their kinds, the places of their parts and the widths of
-// these. Each number is written once.
+// these. Each place and each width is written once.
+ghost use Rattle.std.specs.Prelude.{◌≡◌};
+ghost use Rattle.paper.specs.Kinds.{reply_to};
+ghost use Rattle.format.specs.Kind.{number_of, Numbered, RepliesTo};
 
-// The record kinds: "1 configure", "2 begin", "3 lists", "4 finish, 5 drain, 6 discard, 7 end of sequence, 8 abandon".
-pub const CONFIGURE: u16 = 1;
+// The kinds of records: "1 configure", "2 begin", "3 lists", "4 finish, 5 drain, 6 discard, 7 end of sequence,
+// 8 abandon".
+#[derive(Clone, Copy, PartialEq, Eq, Debug)]
+pub enum Kind {
+    Configure = 1,
+    Begin,
+    Lists,
+    Finish,
+    Drain,
+    Discard,
+    End,
+    Abandon,
+}
 
-pub const BEGIN: u16 = 2;
+// A number that no kind of record has.
+#[derive(Clone, Copy, PartialEq, Eq, Debug)]
+pub struct UnknownKind(pub u16);
 
-pub const LISTS: u16 = 3;
+impl TryFrom<u16> for Kind {
+    type Error = UnknownKind;
 
-pub const FINISH: u16 = 4;
+    ghost try_from_gives = { Numbered };
 
-pub const DRAIN: u16 = 5;
+    fn try_from(number: u16) -> Result<Self, UnknownKind> {
+        match number {
+            1 => Ok(Kind::Configure),
+            2 => Ok(Kind::Begin),
+            3 => Ok(Kind::Lists),
+            4 => Ok(Kind::Finish),
+            5 => Ok(Kind::Drain),
+            6 => Ok(Kind::Discard),
+            7 => Ok(Kind::End),
+            8 => Ok(Kind::Abandon),
+            _ => Err(UnknownKind(number)),
+        }
+    }
+}
 
-pub const DISCARD: u16 = 6;
+impl Kind {
+    // The number that stands for the kind in a record.
+    pub fn number(self) -> u16
+        ensures { result ≡ number_of self }
+    {
+        self as u16
+    }
 
-pub const END: u16 = 7;
+    // The number that stands for it in a reply: "kind 256 + record kind".
+    pub fn reply(self) -> u16
+        ensures { result ≡ reply_to (number_of self) }
+    {
+        REPLY + self.number()
+    }
 
-pub const ABANDON: u16 = 8;
+    // The kind whose replies have this number.
+    pub fn of_reply(number: u16) -> Option<Self>
+        ensures { RepliesTo number result }
+    {
+        Kind::try_from(number.checked_sub(REPLY)?).ok()
+    }
+}
 
-// The reply kinds: "kind 256 + record kind".
+// What is added to a record's kind in its reply: "kind 256 + record kind".
 pub const REPLY: u16 = 256;
-
-pub const CONFIGURED: u16 = REPLY + CONFIGURE;
-
-pub const BEGUN: u16 = REPLY + BEGIN;
-
-pub const LISTED: u16 = REPLY + LISTS;
-
-pub const FINISHED: u16 = REPLY + FINISH;
-
-pub const DRAINED: u16 = REPLY + DRAIN;
-
-pub const DISCARDED: u16 = REPLY + DISCARD;
-
-pub const ENDED: u16 = REPLY + END;
-
-pub const ABANDONED: u16 = REPLY + ABANDON;
 
 // Number 13: "its reply kind is 511".
 pub const MALFORMED: u16 = 511;

@@ -7,22 +7,19 @@ pub mod kinds;
 pub mod records;
 mod replies;
 
-ghost use Rattle.std.specs.Prelude.{◌≡◌};
-ghost use Rattle.format.specs.Cut.{size_of};
+ghost use Rattle.format.specs.Cut.{WholeIn};
 
 pub use carried::{further, opening, shown_width};
+pub use kinds::{Kind, UnknownKind};
 pub use replies::{behind, behind_shown, is_whole, members, tail_place};
 
-// The size of the record or reply at the start of these bytes, or 0 where it is not whole yet.
-pub fn size(bytes: &[u8]) -> usize
-    ensures { result ≡ size_of bytes.now }
+// The size of the record or reply at the start of these bytes where all of it is there.
+pub fn whole(bytes: &[u8]) -> Option<usize>
+    ensures { WholeIn bytes.now result }
 {
     if bytes.len() < kinds::BODY_PLACE {
-        return 0;
+        return None;
     }
-    let n = kinds::BODY_PLACE + wire::u16_at(bytes, 0) as usize;
-    if bytes.len() < n {
-        return 0;
-    }
-    n
+    let n = kinds::BODY_PLACE + usize::from(wire::u16_at(bytes, 0));
+    if bytes.len() < n { None } else { Some(n) }
 }

@@ -1,12 +1,15 @@
 // Reads a record's bytes: its kind where it is well-formed, and the fields of each body. Behind the end all is 0.
-ghost use Rattle.std.specs.Prelude.{◌≡◌, ◌+◌, ◌*◌, ◌≤◌, min};
-ghost use Rattle.paper.specs.Numbers.{u8};
+ghost use Rattle.std.specs.Prelude.{◌≡◌, ◌+◌, ◌*◌, ◌≤◌, cond, min};
+ghost use Rattle.paper.specs.Numbers.{u8, bit};
 ghost use Rattle.paper.specs.Kinds.{neg_place, pos_place, lt_place, begin_length, short_width, long_width};
+ghost use Rattle.paper.specs.Kinds.{slice_flags_place};
 ghost use Rattle.paper.specs.Records.{kind_of, length_of, body_ok, limits_of, slice_of};
-ghost use Rattle.paper.specs.Records.{short_at, long_at, entries0, entries1};
-ghost use Rattle.format.specs.Reads.{kind_in, begin_fields, ReadsAs};
+ghost use Rattle.paper.specs.Records.{short_at, long_at};
+ghost use Rattle.format.specs.Kind.{number_of, KindIn};
+ghost use Rattle.format.specs.Reads.{begin_fields, ReadsAs};
 
 use crate::kinds;
+use crate::kinds::Kind;
 use paper::{Limits, LongEntry, ShortEntry, Surface};
 use wire::flag_bytes;
 
@@ -42,24 +45,15 @@ pub struct SliceFields {
     pub ask1: Ask,
 }
 
-// How many entry bytes stand for list 0 in a lists record.
-fn count0(msg: &[u8]) -> usize
-    ensures { result ≡ entries0 msg.now }
+// How many entry bytes stand for the list of bit N, whose count of active entries stands at that place.
+fn entry_bytes<const N: u32>(msg: &[u8], active: usize) -> usize
+    ensures { result ≡ cond (bit N (u8 msg.now slice_flags_place)) (u8 msg.now active) 0 }
 {
-    if flag_bytes::bit0(wire::byte(msg, kinds::SLICE_FLAGS_PLACE)) {
-        return wire::byte(msg, kinds::ACTIVE0_PLACE) as usize;
+    if flag_bytes::bit::<N>(wire::byte(msg, kinds::SLICE_FLAGS_PLACE)) {
+        usize::from(wire::byte(msg, active))
+    } else {
+        0
     }
-    0
-}
-
-// How many entry bytes stand for list 1.
-fn count1(msg: &[u8]) -> usize
-    ensures { result ≡ entries1 msg.now }
-{
-    if flag_bytes::bit1(wire::byte(msg, kinds::SLICE_FLAGS_PLACE)) {
-        return wire::byte(msg, kinds::ACTIVE1_PLACE) as usize;
-    }
-    0
 }
 
 // The body length that the counts of a begin call for: 12 bytes, 5 for each short-term and 7 for each long-term entry.
@@ -68,43 +62,53 @@ fn begin_length(msg: &[u8]) -> usize
         ≡ begin_length + short_width * (u8 msg.now neg_place + u8 msg.now pos_place)
         + long_width * u8 msg.now lt_place }
 {
-    let neg = wire::byte(msg, kinds::NEG_PLACE) as usize;
-    let pos = wire::byte(msg, kinds::POS_PLACE) as usize;
-    let lt = wire::byte(msg, kinds::LT_PLACE) as usize;
+    let neg = usize::from(wire::byte(msg, kinds::NEG_PLACE));
+    let pos = usize::from(wire::byte(msg, kinds::POS_PLACE));
+    let lt = usize::from(wire::byte(msg, kinds::LT_PLACE));
     kinds::BEGIN_LENGTH + kinds::SHORT_WIDTH * (neg + pos) + kinds::LONG_WIDTH * lt
 }
 
 // Whether the body length is what kind and counts call for.
-fn body_ok(msg: &[u8], kind: u16, len: usize) -> bool
-    requires { (kind ≡ kind_of msg.now) × (len ≡ length_of msg.now) }
+fn body_ok(msg: &[u8], kind: Kind, len: usize) -> bool
+    requires { (number_of kind ≡ kind_of msg.now) × (len ≡ length_of msg.now) }
     ensures { result ≡ body_ok msg.now }
 {
     match kind {
-        kinds::CONFIGURE => len == kinds::CONFIGURE_LENGTH,
-        kinds::BEGIN => len == begin_length(msg),
-        kinds::LISTS => len == kinds::SLICE_LENGTH + count0(msg) + count1(msg),
-        kinds::FINISH..=kinds::ABANDON => len == 0,
-        _ => false,
+        Kind::Configure => len == kinds::CONFIGURE_LENGTH,
+        Kind::Begin => len == begin_length(msg),
+        Kind::Lists => {
+            let bytes0 = entry_bytes::<0>(msg, kinds::ACTIVE0_PLACE);
+            let bytes1 = entry_bytes::<1>(msg, kinds::ACTIVE1_PLACE);
+            len == kinds::SLICE_LENGTH + bytes0 + bytes1
+        }
+        Kind::Finish | Kind::Drain | Kind::Discard | Kind::End | Kind::Abandon => len == 0,
     }
 }
 
-// The kind of a well-formed record, else 0: number 13 is "slice not exactly head plus body, body over 512 bytes,
-// unknown kind, or body length not what kind and counts call for".
-pub fn kind_of(msg: &[u8]) -> u16
-    ensures { result ≡ kind_in msg.now }
+// The kind of a well-formed record: number 13 is "slice not exactly head plus body, body over 512 bytes, unknown kind,
+// or body length not what kind and counts call for".
+#[tactic(auto, using(crate::proofs::Numbered::no_kind), unfolding(paper::specs::Records::well_formed))]
+pub fn kind(msg: &[u8]) -> Option<Kind>
+    ensures { KindIn msg.now result }
 {
     if msg.len() < kinds::BODY_PLACE {
-        return 0;
+        return None;
     }
-    let len = wire::u16_at(msg, 0) as usize;
+    let len = usize::from(wire::u16_at(msg, 0));
     if msg.len() != kinds::BODY_PLACE + len {
-        return 0;
+        return None;
     }
     if kinds::BODY_LIMIT < len {
-        return 0;
+        return None;
     }
-    let kind = wire::u16_at(msg, kinds::KIND_PLACE);
-    if body_ok(msg, kind, len) { kind } else { 0 }
+    let Ok(kind) = Kind::try_from(wire::u16_at(msg, kinds::KIND_PLACE)) else {
+        return None;
+    };
+    if body_ok(msg, kind, len) {
+        Some(kind)
+    } else {
+        None
+    }
 }
 
 // The limits of a configure.
@@ -140,18 +144,9 @@ pub fn begin_fields(msg: &[u8]) -> BeginFields
 // The place of the i-th of the entries of that width that start at byte `at`, or a place that no bytes reach where the
 // sum is not below that.
 fn entry_place(at: usize, width: usize, i: usize) -> usize
-    requires { (4 ≤ width) × (width ≤ 7) }
     ensures { result ≡ min (at + width * i) 9223372036854775808 }
 {
-    if at < wire::BEYOND {
-        if i < wire::BEYOND / 4 {
-            let n = width * i;
-            if n < wire::BEYOND - at {
-                return at + n;
-            }
-        }
-    }
-    wire::BEYOND
+    width.saturating_mul(i).saturating_add(at).min(wire::BEYOND)
 }
 
 // The i-th of the short-term entries that start at byte `at`.
@@ -178,6 +173,7 @@ pub fn long_entry(msg: &[u8], at: usize, i: usize) -> LongEntry
 }
 
 // Reads what a lists record says before its entry bytes. A B or a P slice uses list 0, a B slice uses list 1.
+#[tactic(auto, unfolding(paper::specs::Records::slice_of))]
 pub fn slice_fields(msg: &[u8]) -> SliceFields
     ensures { ReadsAs result (slice_of msg.now) }
 {
@@ -186,17 +182,17 @@ pub fn slice_fields(msg: &[u8]) -> SliceFields
     let ask0 = Ask {
         uses: slice < 2,
         active: wire::byte(msg, kinds::ACTIVE0_PLACE),
-        modify: flag_bytes::bit0(flags),
+        modify: flag_bytes::bit::<0>(flags),
     };
     let ask1 = Ask {
         uses: slice == 0,
         active: wire::byte(msg, kinds::ACTIVE1_PLACE),
-        modify: flag_bytes::bit1(flags),
+        modify: flag_bytes::bit::<1>(flags),
     };
     SliceFields {
         slice,
         flags,
-        own: flag_bytes::bit2(flags),
+        own: flag_bytes::bit::<2>(flags),
         ask0,
         ask1,
     }

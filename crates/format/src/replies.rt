@@ -6,6 +6,7 @@ ghost use Rattle.format.specs.Counts.{past_count};
 
 use crate::carried::shown_width;
 use crate::kinds;
+use crate::kinds::Kind;
 use paper::Reading;
 
 // The place behind a count at a place and n bytes more; a place behind every reply stays.
@@ -20,7 +21,7 @@ fn past(at: usize, n: usize) -> usize
 pub fn behind(reply: &[u8], at: usize, width: u8) -> usize
     ensures { (result ≡ past_count width reply.now at) × (result ≤ at + 1 + 255 * width) }
 {
-    past(at, width as usize * wire::byte(reply, at) as usize)
+    past(at, usize::from(width) * usize::from(wire::byte(reply, at)))
 }
 
 // The place behind a count at a place and as many pictures handed out.
@@ -45,11 +46,11 @@ fn tail_end(st: Reading, reply: &[u8], at: usize) -> usize
 pub fn members(reply: &[u8]) -> usize
     ensures { (result ≡ members_of reply.now) × (result ≤ 1275) }
 {
-    let a = wire::byte(reply, kinds::BEFORE_PLACE) as usize;
-    let b = wire::byte(reply, kinds::AFTER_PLACE) as usize;
-    let c = wire::byte(reply, kinds::FOLL_PLACE) as usize;
-    let d = wire::byte(reply, kinds::LT_CURR_PLACE) as usize;
-    let e = wire::byte(reply, kinds::LT_FOLL_PLACE) as usize;
+    let a = usize::from(wire::byte(reply, kinds::BEFORE_PLACE));
+    let b = usize::from(wire::byte(reply, kinds::AFTER_PLACE));
+    let c = usize::from(wire::byte(reply, kinds::FOLL_PLACE));
+    let d = usize::from(wire::byte(reply, kinds::LT_CURR_PLACE));
+    let e = usize::from(wire::byte(reply, kinds::LT_FOLL_PLACE));
     a + b + c + d + e
 }
 
@@ -57,22 +58,23 @@ pub fn members(reply: &[u8]) -> usize
 pub fn tail_place(reply: &[u8]) -> usize
     ensures { (result ≡ tail_place reply.now) × (result ≤ 5120) }
 {
-    if wire::u16_at(reply, kinds::KIND_PLACE) == kinds::BEGUN {
+    if wire::u16_at(reply, kinds::KIND_PLACE) == Kind::Begin.reply() {
         return kinds::MEMBERS_PLACE + kinds::WORD * members(reply);
     }
     kinds::REST_PLACE
 }
 
 // The length that the kind and the counts call for.
+#[tactic(auto, unfolding(paper::specs::WholeReply::reply_end))]
 fn reply_end(st: Reading, reply: &[u8]) -> usize
     ensures { result ≡ reply_end st reply.now }
 {
     if wire::u16_at(reply, kinds::NUMBER_PLACE) != 0 {
         return kinds::REST_PLACE;
     }
-    if wire::u16_at(reply, kinds::KIND_PLACE) == kinds::LISTED {
-        let n = wire::byte(reply, kinds::LENGTH0_PLACE) as usize;
-        let m = wire::byte(reply, kinds::LENGTH1_PLACE) as usize;
+    if wire::u16_at(reply, kinds::KIND_PLACE) == Kind::Lists.reply() {
+        let n = usize::from(wire::byte(reply, kinds::LENGTH0_PLACE));
+        let m = usize::from(wire::byte(reply, kinds::LENGTH1_PLACE));
         return kinds::LISTS_PLACE + kinds::WORD * (n + m);
     }
     tail_end(st, reply, tail_place(reply))
@@ -84,15 +86,16 @@ fn kind_known(reply: &[u8]) -> bool
 {
     let k = wire::u16_at(reply, kinds::KIND_PLACE);
     let n = wire::u16_at(reply, kinds::NUMBER_PLACE);
-    ((kinds::CONFIGURED <= k) & (k <= kinds::ABANDONED)) | ((k == kinds::MALFORMED) & !(n == 0))
+    Kind::of_reply(k).is_some() || k == kinds::MALFORMED && n != 0
 }
 
 // Whether the bytes are a whole reply, behind those that left this reading.
+#[tactic(auto, unfolding(paper::specs::WholeReply::whole_reply))]
 pub fn is_whole(st: Reading, reply: &[u8]) -> bool
     ensures { result ≡ whole_reply st reply.now }
 {
     let len = reply.len();
     (kinds::REST_PLACE <= len)
-        & ((len == kinds::BODY_PLACE + wire::u16_at(reply, 0) as usize)
+        & ((len == kinds::BODY_PLACE + usize::from(wire::u16_at(reply, 0)))
             & (kind_known(reply) & (len == reply_end(st, reply))))
 }

@@ -15,6 +15,7 @@ use Rattle.stream.specs.Turns.{through}
 use Rattle.stream.proofs.Running.{Reached, to_the_end}
 use Rattle.stream.proofs.Sides.{none_waits}
 use Rattle.watch.specs.Pairs.{tally_all}
+use Rattle.watch.specs.Parts.{part_at}
 use Rattle.ledger.specs.Verdict.{judged}
 use Rattle.ledger.specs.Turns.{Judging, Settled, Stand, records_in, replies_in, Starts, Turning, Judges}
 use Rattle.ledger.proofs.Files.{KeptFiles, kept_files, session_files}
@@ -63,9 +64,9 @@ judges x y s r =
 module _ {x y : ℤ} {s : Stand} (g : Judges x y s) (m : s.state.more ≡ false) (a : s.state.records.failed ≡ false) (b : s.state.replies.failed ≡ false) (more others : List ℕ)
     (c : s.state.records.ended ≡ true → more ≡ []) (d : s.state.replies.ended ≡ true → others ≡ []) where
   -- IF THE PART IS 0, THE TWO FILES KEEP DEMAND 3, whoever wrote them
-  pub says_kept : s.state.part ≡ 0 → KeptFiles (g.R ++ more) (g.A ++ others)
+  pub says_kept : part_at s.state.broken ≡ 0 → KeptFiles (g.R ++ more) (g.A ++ others)
   says_kept z = kept_files (g.R ++ more) (g.A ++ others) (sym (g.answer m a b more others c d).part ∙ z)
 
   -- and it is 0 where they are records and a session's replies to them
-  pub kept_said : all_b (λ (n : ℕ). ltb n 256) (g.R ++ more) ≡ true → g.A ++ others ≡ joined (replies fresh (cut (g.R ++ more))) → s.state.part ≡ 0
+  pub kept_said : all_b (λ (n : ℕ). ltb n 256) (g.R ++ more) ≡ true → g.A ++ others ≡ joined (replies fresh (cut (g.R ++ more))) → part_at s.state.broken ≡ 0
   kept_said n e = (g.answer m a b more others c d).part ∙ ap (λ (l : List ℕ). (judged (g.R ++ more) l).part) e ∙ session_files (g.R ++ more) n

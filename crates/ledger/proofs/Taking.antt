@@ -27,6 +27,7 @@ use Rattle.stream.proofs.Keeping.{taken_off}
 use Rattle.stream.proofs.Sides.{onward_less, unread_less}
 use Rattle.watch.specs.declared.exchanges.Paired.{Paired}
 use Rattle.watch.specs.Book.{book_in, HoldsBook, no_tally, most}
+use Rattle.watch.specs.Parts.{part_at, blamed_at}
 use Rattle.watch.specs.Pairs.{tally_all, Watches, WatchesAll}
 use Rattle.watch.proofs.Far.{length_none}
 use Rattle.watch.proofs.ExchangeLaws.{is_ledger, same_blame, watched_even, tally_append}
@@ -62,7 +63,7 @@ module _ {p : Paired} (s : State) (records replies : List ℕ) (h : s.records.he
       let v = take s.replies.held replies in
       let a : heard.said ≡ [] = none_whole heard.said w heard.whole_said heard.cut_said z in
       let b : heard.answers ≡ [] = length_none heard.answers (sym heard.even ∙ ap length a) in
-      let c : p.part ≡ 0 = heard.part ∙ ap₂ (λ (x y : List (List ℕ)). (watched s.book.reading 0 (book_in s.book) x y).part) a b in
+      let c : part_at p.broken ≡ 0 = heard.part ∙ ap₂ (λ (x y : List (List ℕ)). (watched s.book.reading 0 (book_in s.book) x y).part) a b in
       let d : length (take p.answered v) ≡ 0 = ap length (heard.cut_answers ∙ ap joined b) in
       let e = length-take-le p.answered v g.answered in
       let f : p.answered ≡ 0 = omega arith in
@@ -81,10 +82,9 @@ module _ {p : Paired} (s : State) (records replies : List ℕ) (h : s.records.he
         number = min (s.number + p.pairs) most;
         records = lessened s.records p.taken;
         replies = lessened s.replies p.answered;
-        part = p.part;
-        named = p.blamed;
+        broken = p.broken;
         rest = 0;
-        more = eqb p.part 0;
+        more = eqb (part_at p.broken) 0;
       }
 
   -- all that was read, behind the exchanges so far and those of this turn
@@ -98,7 +98,7 @@ module _ {p : Paired} (s : State) (records replies : List ℕ) (h : s.records.he
     abbrev both : Verdict
     both = watched opening 0 blank all_records_said all_answers
 
-    part_both : p.part ≡ both.part
+    part_both : part_at p.broken ≡ both.part
     part_both = next_block opening blank j.said j.answers j.unbroken j.book heard
 
     even_both : length all_records_said ≡ length all_answers
@@ -121,7 +121,7 @@ module _ {p : Paired} (s : State) (records replies : List ℕ) (h : s.records.he
         also w refl u (next_book opening blank j.said j.answers j.unbroken j.book heard)
 
     -- what the last exchange of this turn names, if it breaks a part
-    named_both : (p.part ≡ 0 → ⊥) → p.blamed ≡ blamed (further_all opening (take both.at all_answers)) both.ledger (get_or all_records_said both.at []) (get_or all_answers both.at [])
+    named_both : (part_at p.broken ≡ 0 → ⊥) → blamed_at p.broken ≡ blamed (further_all opening (take both.at all_answers)) both.ledger (get_or all_records_said both.at []) (get_or all_answers both.at [])
     named_both w =
         let e = next_place opening blank j.said j.answers j.unbroken j.book heard in
         let n = watched_even opening 0 blank j.said j.answers j.unbroken in
@@ -143,7 +143,7 @@ module _ {p : Paired} (s : State) (records replies : List ℕ) (h : s.records.he
       answers_both : A ++ brought s.replies next_state.replies replies' ≡ joined all_answers ++ take (s.replies.held - p.answered) replies'
       answers_both = cut_front s.replies p.answered replies j.answers heard.answers k answered_within heard.cut_answers b j.cut_answers
 
-      goes : p.part ≡ 0 → Judging next_state records' replies' (R ++ brought s.records next_state.records records') (A ++ brought s.replies next_state.replies replies')
+      goes : part_at p.broken ≡ 0 → Judging next_state records' replies' (R ++ brought s.records next_state.records records') (A ++ brought s.replies next_state.replies replies')
       goes z =
           let u : both.part ≡ 0 = sym part_both ∙ z in
           let n = (watched_even opening 0 blank all_records_said all_answers u).1 in
@@ -159,7 +159,7 @@ module _ {p : Paired} (s : State) (records replies : List ℕ) (h : s.records.he
             book = subst (λ (l : List (List ℕ)). HoldsBook p.book (further_all opening l) both.ledger (tally_all opening no_tally l)) (take_all both.at all_answers (omega arith)) book_both;
           }
 
-      breaks : (p.part ≡ 0 → ⊥) → (more others : List ℕ)
+      breaks : (part_at p.broken ≡ 0 → ⊥) → (more others : List ℕ)
           → Says next_state (judged ((R ++ brought s.records next_state.records records') ++ more) ((A ++ brought s.replies next_state.replies replies') ++ others))
       breaks w more others =
           let x = take (s.records.held - p.taken) records' in
@@ -192,8 +192,8 @@ module _ {p : Paired} (s : State) (records replies : List ℕ) (h : s.records.he
             record {
               records_on = onward_less s.records p.taken records records' h taken_within a;
               replies_on = onward_less s.replies p.answered replies replies' k answered_within b;
-              goes_on = λ R A j q. goes j a b (eqb-true p.part 0 q);
-              ends = λ R A j q x y more others c d. breaks j a b (eqb-false p.part 0 q) more others;
+              goes_on = λ R A j q. goes j a b (eqb-true (part_at p.broken) 0 q);
+              ends = λ R A j q x y more others c d. breaks j a b (eqb-false (part_at p.broken) 0 q) more others;
             };
         hears = λ _. (unread_less s.records p.taken records', unread_less s.replies p.answered replies');
         reads = λ e. not_both (exchange_waits s records replies) (some_taken n) e;

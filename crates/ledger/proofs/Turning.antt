@@ -21,7 +21,12 @@ use Rattle.stream.proofs.Keeping.{still_same}
 use Rattle.stream.proofs.Sides.{Side, side_fed, side_same}
 use Rattle.watch.proofs.ExchangeLaws.{watched_even}
 use Rattle.ledger.specs.declared.State.{State}
-use Rattle.ledger.specs.Moves.{move_of}
+use Rattle.std.specs.Prelude.{Option, None}
+use Rattle.paper.specs.declared.Blamed.TheVariants.{Nothing}
+use Rattle.watch.specs.declared.demand.Part.TheVariants.{NotWhole, RecordAlone, ReplyAlone}
+use Rattle.watch.specs.declared.demand.Broken.{Broken}
+use Rattle.watch.specs.Parts.{part_at, blamed_at}
+use Rattle.ledger.specs.Moves.{alone, move_of}
 use Rattle.ledger.specs.Verdict.{last_part, last_rest, judged}
 use Rattle.ledger.specs.Turns.{state_of, wants, Went, Judging, Says, Keeps, exchange_waits, Turned}
 use Rattle.ledger.proofs.Verdicts.{rest_decides, judged_front}
@@ -77,7 +82,7 @@ module _ (s : State) (records replies : List ℕ) (h : s.records.held ≤ length
 
   -- a run that ends after a read could not read
   reads : {f g : Feed} {records' replies' : List ℕ} (more : Bool) → Side s.records records f records' → Side s.replies replies g replies'
-      → (more ≡ false → f.failed ≡ false → g.failed ≡ false → ⊥) → Next (state_of s f g 0 0 more) records' replies'
+      → (more ≡ false → f.failed ≡ false → g.failed ≡ false → ⊥) → Next (state_of s f g None 0 more) records' replies'
   reads more a b n =
       record {
         records_on = a.onward;
@@ -98,10 +103,10 @@ module _ (s : State) (records replies : List ℕ) (h : s.records.held ≤ length
         ends = λ R A j m p q. absurd (n m p q);
       }
 
-  reads_records : {f : Feed} {after : List ℕ} → Fed s.records records f after → Next (state_of s f s.replies 0 0 (not f.failed)) after replies
+  reads_records : {f : Feed} {after : List ℕ} → Fed s.records records f after → Next (state_of s f s.replies None 0 (not f.failed)) after replies
   reads_records {f} g = reads (not f.failed) (side_fed h g) (side_same s.replies replies k) (λ m p q. not_both (not f.failed) (ap not p) m)
 
-  reads_replies : {f : Feed} {after : List ℕ} → Fed s.replies replies f after → Next (state_of s s.records f 0 0 (not f.failed)) records after
+  reads_replies : {f : Feed} {after : List ℕ} → Fed s.replies replies f after → Next (state_of s s.records f None 0 (not f.failed)) records after
   reads_replies {f} g = reads (not f.failed) (side_same s.records records h) (side_fed k g) (λ m p q. not_both (not f.failed) (ap not q) m)
 
   -- ---- the run ends where no exchange is whole
@@ -119,22 +124,22 @@ module _ (s : State) (records replies : List ℕ) (h : s.records.held ≤ length
       × (last_rest part (length (rest_of (said_on more))) (length (rest_of (answers_on others))) ≡ last_rest part s.records.held s.replies.held)
 
   -- how the run ends with a part
-  abbrev ended : ℕ → State
-  ended part = state_of s s.records s.replies part (last_rest part s.records.held s.replies.held) false
+  abbrev ended : Option Broken → State
+  ended broken = state_of s s.records s.replies broken (last_rest (part_at broken) s.records.held s.replies.held) false
 
-  says_last : {R A : List ℕ} (part : ℕ) (more others : List ℕ) → Judging s records replies R A → LastPart part more others → Says (ended part) (judged (R ++ more) (A ++ others))
-  says_last {R} {A} part more others j l =
+  says_last : {R A : List ℕ} (broken : Option Broken) → blamed_at broken ≡ Nothing → (more others : List ℕ) → Judging s records replies R A → LastPart (part_at broken) more others → Says (ended broken) (judged (R ++ more) (A ++ others))
+  says_last {R} {A} broken o more others j l =
       let e = (watched_even opening 0 blank j.said j.answers j.unbroken).0 in
       let x = said_on more in
       let y = answers_on others in
       let p : R ++ more ≡ joined j.said ++ x = ap (λ (q : List ℕ). q ++ more) j.cut_said ∙ append_assoc (joined j.said) (take s.records.held records) more in
       let q : A ++ others ≡ joined j.answers ++ y = ap (λ (q : List ℕ). q ++ others) j.cut_answers ∙ append_assoc (joined j.answers) (take s.replies.held replies) others in
       let v = ap₂ judged p q ∙ judged_front j.said j.answers j.whole_said j.whole_answers x y ∙ rest_decides j.said j.answers e (cut x) (cut y) (length (rest_of x)) (length (rest_of y)) j.unbroken l.0 in
-      rw v (record { part = sym l.1; named = refl; rest = sym (ap (λ (q : ℕ). last_rest q (length (rest_of x)) (length (rest_of y))) l.1 ∙ l.2); number = j.number; book = j.book })
+      rw v (record { part = sym l.1; named = o; rest = sym (ap (λ (q : ℕ). last_rest q (length (rest_of x)) (length (rest_of y))) l.1 ∙ l.2); number = j.number; book = j.book })
 
-  stops : (part : ℕ) → ((more others : List ℕ) → (s.records.ended ≡ true → more ≡ []) → (s.replies.ended ≡ true → others ≡ []) → LastPart part more others)
-      → Next (ended part) records replies
-  stops part l =
+  stops : (broken : Option Broken) → blamed_at broken ≡ Nothing → ((more others : List ℕ) → (s.records.ended ≡ true → more ≡ []) → (s.replies.ended ≡ true → others ≡ []) → LastPart (part_at broken) more others)
+      → Next (ended broken) records replies
+  stops broken o l =
       record {
         records_on = (side_same s.records records h).onward;
         replies_on = (side_same s.replies replies k).onward;
@@ -142,7 +147,7 @@ module _ (s : State) (records replies : List ℕ) (h : s.records.held ≤ length
         ends =
             λ R A j m a b more others c d.
             rw (still_same {all = R} s.records.held s.records.held records (omega arith), still_same {all = A} s.replies.held s.replies.held replies (omega arith))
-            (says_last part more others j (l more others c d));
+            (says_last broken o more others j (l more others c d));
       }
 
   abbrev Sizes : Bool → Bool → Bool → Bool → Bool → Type 0
@@ -150,35 +155,35 @@ module _ (s : State) (records replies : List ℕ) (h : s.records.held ≤ length
       (ltb 0 (size_of (take s.records.held records)) ≡ said) × (s.records.ended ≡ all_records_said) × (ltb 0 (size_of (take s.replies.held replies)) ≡ answered) × (s.replies.ended ≡ allAnswered)
       × (ltb 0 s.replies.held ≡ rest)
 
-  stops_18 : {x y : Bool} → Sizes false true true x y → Next (ended 18) records replies
+  stops_18 : {x y : Bool} → Sizes false true true x y → Next (ended (alone ReplyAlone)) records replies
   stops_18 z =
-      stops 18
+      stops (alone ReplyAlone) refl
       (λ more others c d.
       let a = none_cut s.records records z.0 z.1 c in
       let b = some_cut s.replies replies z.2 others in
       (omega arith, last_18 (length (cut (said_on more))) (length (cut (answers_on others))) (length (rest_of (answers_on others))) a b, refl))
 
-  stops_1 : {x y : Bool} → Sizes x y false true true → Next (ended 1) records replies
+  stops_1 : {x y : Bool} → Sizes x y false true true → Next (ended (alone NotWhole)) records replies
   stops_1 z =
-      stops 1
+      stops (alone NotWhole) refl
       (λ more others c d.
       let a = none_cut s.replies replies z.2 z.3 d in
       let b = left_over s.replies replies z.2 z.3 d k in
       let e = ltb-true 0 s.replies.held z.4 in
       (omega arith, last_1 (length (cut (said_on more))) (length (cut (answers_on others))) (length (rest_of (answers_on others))) a (omega arith), b))
 
-  stops_17 : {x : Bool} → Sizes true x false true false → Next (ended 17) records replies
+  stops_17 : {x : Bool} → Sizes true x false true false → Next (ended (alone RecordAlone)) records replies
   stops_17 z =
-      stops 17
+      stops (alone RecordAlone) refl
       (λ more others c d.
       let a = none_cut s.replies replies z.2 z.3 d in
       let b = left_over s.replies replies z.2 z.3 d k in
       let e = ltb-false 0 s.replies.held z.4 in
       (omega arith, last_17 (length (cut (said_on more))) (length (cut (answers_on others))) (length (rest_of (answers_on others))) a (omega arith) (some_cut s.records records z.0 more), refl))
 
-  stops_0 : Sizes false true false true false → Next (ended 0) records replies
+  stops_0 : Sizes false true false true false → Next (ended None) records replies
   stops_0 z =
-      stops 0
+      stops None refl
       (λ more others c d.
       let a = none_cut s.replies replies z.2 z.3 d in
       let b = left_over s.replies replies z.2 z.3 d k in
@@ -190,8 +195,8 @@ module _ (s : State) (records replies : List ℕ) (h : s.records.held ≤ length
   -- ---- where no exchange is whole
 
   module _ {r : State} {records' replies' : List ℕ} where
-    stopped : {part : ℕ} → Next (ended part) records replies
-        → (records' ≡ records) × (replies' ≡ replies) × (r ≡ ended part) → Next r records' replies'
+    stopped : {broken : Option Broken} → Next (ended broken) records replies
+        → (records' ≡ records) × (replies' ≡ replies) × (r ≡ ended broken) → Next r records' replies'
     stopped t w = rw (w.0, w.1, w.2) t
 
     -- the move is the one that the sizes call for, and not both a whole record and a whole reply wait

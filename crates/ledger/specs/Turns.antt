@@ -1,32 +1,32 @@
 -- What a turn of the program says of all that was read of the two files.
-use Rattle.std.specs.Prelude.{ℕ, min, ◌≡◌, List, [], ◌++◌, Bool, true, false, not, ◌&&◌, take, ltb, ℤ}
+use Rattle.std.specs.Prelude.{ℕ, min, ◌≡◌, List, [], ◌++◌, Bool, true, false, not, ◌&&◌, take, ltb, ℤ, Option, None}
 use Rattle.paper.specs.Words.{all_b}
 use Rattle.paper.specs.Reading.{opening, further_all}
 use Rattle.paper.specs.Ledger.{blank}
 use Rattle.paper.specs.Watch.{watched}
-use Rattle.paper.specs.declared.Blamed.TheVariants.{Nothing}
 use Rattle.format.specs.Cut.{size_of, joined, is_whole}
 use Rattle.stream.specs.declared.files.Feed.{Feed}
 use Rattle.stream.specs.Files.{Fed, brought, Onward, Unread, unread}
 use Rattle.stream.specs.Turns.{Ran, through}
 use Rattle.watch.specs.Book.{HoldsBook, no_tally, most}
 use Rattle.watch.specs.Pairs.{tally_all}
+use Rattle.watch.specs.declared.demand.Broken.{Broken}
+use Rattle.watch.specs.Parts.{part_at, blamed_at}
 use Rattle.ledger.specs.declared.State.{State}
 use Rattle.ledger.specs.declared.Move.{Move}
 use Rattle.ledger.specs.declared.Move.TheVariants.{Records, Replies, Stop}
 use Rattle.ledger.specs.Moves.{move_of}
 use Rattle.ledger.specs.Verdict.{Answer, last_rest, judged}
 
--- the same book and number; no exchange was heard, so nothing is named
-abbrev pub state_of : State → Feed → Feed → ℕ → ℕ → Bool → State
-state_of s records replies part rest more =
+-- the same book and number
+abbrev pub state_of : State → Feed → Feed → Option Broken → ℕ → Bool → State
+state_of s records replies broken rest more =
     record {
       book = s.book;
       number = s.number;
       records = records;
       replies = replies;
-      part = part;
-      named = Nothing;
+      broken = broken;
       rest = rest;
       more = more;
     }
@@ -38,17 +38,17 @@ wants s records replies =
     (ltb 0 (size_of (take s.replies.held replies))) s.replies.ended
     (ltb 0 s.replies.held)
 
--- one of the files is read on, or the run ends with a part, or with 0
+-- one of the files is read on, or the run ends with a part, or with none
 abbrev pub Went : State → Move → List ℕ → List ℕ → State → List ℕ → List ℕ → Type 0
 Went s Records records replies r records' replies' =
     Fed s.records records r.records records' × (replies' ≡ replies)
-    × (r ≡ state_of s r.records s.replies 0 0 (not r.records.failed))
+    × (r ≡ state_of s r.records s.replies None 0 (not r.records.failed))
 Went s Replies records replies r records' replies' =
     Fed s.replies replies r.replies replies' × (records' ≡ records)
-    × (r ≡ state_of s s.records r.replies 0 0 (not r.replies.failed))
-Went s (Stop part) records replies r records' replies' =
+    × (r ≡ state_of s s.records r.replies None 0 (not r.replies.failed))
+Went s (Stop broken) records replies r records' replies' =
     (records' ≡ records) × (replies' ≡ replies)
-    × (r ≡ state_of s s.records s.replies part (last_rest part s.records.held s.replies.held) false)
+    × (r ≡ state_of s s.records s.replies broken (last_rest (part_at broken) s.records.held s.replies.held) false)
 
 -- All that was read so far, R of the records and A of the replies, is whole records and as many whole replies that
 -- break nothing, and what still waits. The book is their ledger, with their tally, read on behind them, in normal form;
@@ -67,8 +67,8 @@ pub record Judging (s : State) (records replies R A : List ℕ) : Type 0 where
 
 -- the state has this answer
 pub record Says (s : State) (x : Answer) : Type 0 where
-  pub part : s.part ≡ x.part
-  pub named : s.named ≡ x.named
+  pub part : part_at s.broken ≡ x.part
+  pub named : blamed_at s.broken ≡ x.named
   pub rest : s.rest ≡ x.rest
   pub number : s.number ≡ min x.at most
   pub book : HoldsBook s.book x.reading x.ledger x.tally

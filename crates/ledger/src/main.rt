@@ -6,7 +6,9 @@
 mod text;
 
 ghost use Rattle.std.specs.Prelude.{◌≡◌, ◌≤◌, length};
-ghost use Rattle.ledger.specs.Moves.{move_of};
+ghost use Rattle.watch.specs.Parts.{part_at};
+ghost use Rattle.ledger.specs.declared.Move.TheVariants.{Stop};
+ghost use Rattle.ledger.specs.Moves.{alone, move_of};
 ghost use Rattle.ledger.specs.Turns.{state_of, wants, Went, Turned, standing, Judges};
 ghost use Rattle.ledger.specs.Verdict.{last_rest};
 
@@ -15,37 +17,46 @@ use std::io;
 use std::io::{Read, Write};
 use stream::files;
 use stream::files::{Feed, NAME, Source};
-use watch::Book;
+use watch::{Book, Broken, Part};
 
 // A record or a reply has at most 65,539 bytes, so there is always room to read on behind one that is not whole yet.
 const INPUT: usize = 131072;
 
-// The book, how many exchanges broke nothing, the two files, the part that the next exchange breaks, the picture and
-// the surface that it does so with, how many bytes are told of a record or reply that is not whole, and whether the run
-// goes on.
+// The book, how many exchanges broke nothing, the two files, the part that the next exchange breaks, if it does, with the
+// picture and the surface that it does so with, how many bytes are told of a record or reply that is not whole, and
+// whether the run goes on.
 #[derive(Clone, Copy)]
 struct State {
     book: Book,
     number: u64,
     records: Feed,
     replies: Feed,
-    part: u8,
-    named: Blamed,
+    broken: Option<Broken>,
     rest: usize,
     more: bool,
 }
 
 // What is done where no whole record or no whole reply is left: one of the files is read on, or the run ends with a
-// part, or with 0.
+// part, or with none.
 #[derive(Clone, Copy)]
 enum Move {
     Records,
     Replies,
-    Stop(u8),
+    Stop(Option<Broken>),
 }
 
-// 18: a reply without its record; 17: a record without its reply; 1: a rest of the replies that is no whole reply. A
-// rest of the records that is no whole record has no reply. `said`, `answered`: a whole record, a whole reply is left.
+// The run ends with this part, and nothing is named.
+fn ends_with(part: Part) -> Move
+    ensures { result ≡ Stop (alone part) }
+{
+    Move::Stop(Some(Broken {
+        part,
+        blamed: Blamed::Nothing,
+    }))
+}
+
+// A reply without its record; a record without its reply; a rest of the replies that is no whole reply. A rest of the
+// records that is no whole record has no reply. `said`, `answered`: a whole record, a whole reply is left.
 fn next_move(said: bool, all_said: bool, answered: bool, all_answered: bool, rest: bool) -> Move
     ensures { result ≡ move_of said all_said answered all_answered rest }
 {
@@ -53,43 +64,52 @@ fn next_move(said: bool, all_said: bool, answered: bool, all_answered: bool, res
         return Move::Records;
     }
     if !said & answered {
-        return Move::Stop(18);
+        return ends_with(Part::ReplyAlone);
     }
     if !all_answered {
         return Move::Replies;
     }
     if rest {
-        return Move::Stop(1);
+        return ends_with(Part::NotWhole);
     }
-    if said { Move::Stop(17) } else { Move::Stop(0) }
+    if said {
+        return ends_with(Part::RecordAlone);
+    }
+    Move::Stop(None)
 }
 
 // The bytes that a run which ends with this part tells of: those of a last record, which has no reply, or those of a
 // last reply.
-fn last_rest(part: u8, records: usize, replies: usize) -> usize
-    ensures { result ≡ last_rest part records replies }
+fn last_rest(broken: Option<Broken>, records: usize, replies: usize) -> usize
+    ensures { result ≡ last_rest (part_at broken) records replies }
 {
-    match part {
-        0 => records,
-        1 => replies,
-        _ => 0,
+    match broken {
+        None => records,
+        Some(x) => match x.part {
+            Part::NotWhole => replies,
+            _ => 0,
+        },
     }
 }
 
-// The same book and number, with these files, this part and this rest, and nothing named.
-fn fed(s: State, records: Feed, replies: Feed, part: u8, rest: usize, more: bool) -> State
-    ensures { result ≡ state_of s records replies part rest more }
+// The same book and number, with these files, this part and this rest.
+fn fed(
+    s: State,
+    records: Feed,
+    replies: Feed,
+    broken: Option<Broken>,
+    rest: usize,
+    more: bool,
+) -> State
+    ensures { result ≡ state_of s records replies broken rest more }
 {
-    let book = s.book;
     State {
-        book,
-        number: s.number,
         records,
         replies,
-        part,
-        named: Blamed::Nothing,
+        broken,
         rest,
         more,
+        ..s
     }
 }
 
@@ -112,15 +132,15 @@ fn go_on<R: Read>(
     match m {
         Move::Records => {
             let f = files::read_on(records_source, a, records);
-            fed(s, f, b, 0, 0, !f.failed)
+            fed(s, f, b, None, 0, !f.failed)
         }
         Move::Replies => {
             let f = files::read_on(replies_source, b, replies);
-            fed(s, a, f, 0, 0, !f.failed)
+            fed(s, a, f, None, 0, !f.failed)
         }
-        Move::Stop(part) => {
-            let rest = last_rest(part, a.held, b.held);
-            fed(s, a, b, part, rest, false)
+        Move::Stop(broken) => {
+            let rest = last_rest(broken, a.held, b.held);
+            fed(s, a, b, broken, rest, false)
         }
     }
 }
@@ -143,8 +163,8 @@ fn starve<R: Read>(
     let b = s.replies;
     let n = a.held;
     let k = b.held;
-    let said = format::size(&records[..n]) > 0;
-    let answered = format::size(&replies[..k]) > 0;
+    let said = format::whole(&records[..n]).is_some();
+    let answered = format::whole(&replies[..k]).is_some();
     let m = next_move(said, a.ended, answered, b.ended, k > 0);
     go_on(s, m, records_source, replies_source, records, replies)
 }
@@ -176,19 +196,16 @@ fn turn<R: Read>(
     }
     stream::shift(records, taken, n);
     stream::shift(replies, answered, k);
-    let book = p.book;
-    let named = p.blamed;
     let x = files::without(a, taken);
     let y = files::without(b, answered);
     State {
-        book,
+        book: p.book,
         number: watch::plus(s.number, p.pairs),
         records: x,
         replies: y,
-        part: p.part,
-        named,
+        broken: p.broken,
         rest: 0,
-        more: p.part == 0,
+        more: p.broken.is_none(),
     }
 }
 
@@ -209,15 +226,15 @@ fn run<R: Read>(
         number: 0,
         records: files::unread(records_fd),
         replies: files::unread(replies_fd),
-        part: 0,
-        named: Blamed::Nothing,
+        broken: None,
         rest: 0,
         more: true,
     };
-    let mut left: u64 = 18446744073709551615;
-    while left > 0 {
+    for _ in 0..u64::MAX {
         s = turn(s, records_source, replies_source, records, replies);
-        left = stream::turns_left(left, s.more);
+        if !s.more {
+            break;
+        }
     }
     s
 }
@@ -267,7 +284,6 @@ fn finish<R: Alloc, O: Write, W: Write, F>(
 ) -> io::Result<()> {
     let a = s.records;
     let b = s.replies;
-    let book = s.book;
     if a.failed {
         return files::unreadable(rt, err, records_source, records, b"ledger");
     }
@@ -277,11 +293,9 @@ fn finish<R: Alloc, O: Write, W: Write, F>(
     if s.more {
         return err.write_all(b"ledger: more reads than there are numbers of 64 bits\n");
     }
-    if s.part != 0 {
-        let named = s.named;
-        let _ = text::broken(out, watch::plus(s.number, 1), s.part, s.rest, named);
-        return Ok(());
-    }
-    let _ = text::kept(out, book, s.number, s.rest);
+    let _ = match s.broken {
+        Some(x) => text::broken(out, watch::plus(s.number, 1), s.rest, x),
+        None => text::kept(out, s.book, s.number, s.rest),
+    };
     Ok(())
 }

@@ -1,119 +1,74 @@
-// What the program says, and the words for each part.
+// What the program says.
 use paper::Blamed;
-use std::io;
 use std::io::Write;
-use watch::Book;
+use std::{fmt, io};
+use watch::{Book, Broken};
 
-// Says some words.
-fn say<W: Write>(out: &mut W, words: &[u8]) -> io::Result<()> {
-    out.write_all(words)
-}
+// A number and the name of what is counted, with an s where the number is not 1.
+#[derive(Clone, Copy)]
+struct Count(u64, &'static str);
 
-// Says the words for a part of demand 3.
-fn say_part<W: Write>(out: &mut W, part: u8) -> io::Result<()> {
-    match part {
-        1 => say(out, b"the bytes are no whole reply"),
-        2 => say(out, b"no reply to that record"),
-        3 => say(out, b"begun while a picture is current"),
-        4 => say(out, b"begun, but not with the next serial"),
-        5 => say(out, b"begun on a surface that is held"),
-        6 => say(out, b"handed out, but no picture of that serial waits"),
-        7 => say(out, b"handed out on another surface or with another POC"),
-        8 => say(out, b"thrown away, but no picture of that serial waits"),
-        9 => say(out, b"thrown away by a call that throws nothing away"),
-        10 => say(out, b"released, but nothing lies on that surface"),
-        11 => say(out, b"released, but the picture there still waits"),
-        12 => say(out, b"a set or list names a picture that is not held"),
-        13 => say(out, b"no picture is current"),
-        14 => say(out, b"an end of sequence moves something"),
-        15 => say(out, b"something is left that the call clears"),
-        16 => say(out, b"more is stored than a store holds"),
-        17 => say(out, b"a record without its reply"),
-        18 => say(out, b"a reply without its record"),
-        19 => say(out, b"thrown away by a begin that does not clear"),
-        _ => say(out, b""),
+impl fmt::Display for Count {
+    fn fmt<W: fmt::Write>(&self, f: &mut fmt::Formatter<W>) -> fmt::Result {
+        let s = if self.0 == 1 { "" } else { "s" };
+        write!(f, "{} {}{s}", self.0, self.1)
     }
 }
 
-// A number and the words behind it.
-fn count<W: Write>(out: &mut W, n: u64, what: &[u8]) -> io::Result<()> {
-    write!(out, "{n}")?;
-    say(out, what)
-}
+// Which picture and surface are named, if any.
+#[derive(Clone, Copy)]
+struct Named(Blamed);
 
-// A number, the name of what is counted, with an s where the number is not 1, and the words behind it.
-fn count_named<W: Write>(out: &mut W, n: u64, name: &[u8], behind: &[u8]) -> io::Result<()> {
-    count(out, n, name)?;
-    if n != 1 {
-        say(out, b"s")?;
-    }
-    say(out, behind)
-}
-
-// Says which picture and surface are named, if any.
-fn say_named<W: Write>(out: &mut W, x: Blamed) -> io::Result<()> {
-    match x {
-        Blamed::Nothing => say(out, b""),
-        Blamed::Picture(n) => {
-            say(out, b": picture ")?;
-            count(out, n.0 as u64, b"")
-        }
-        Blamed::Surface(s) => {
-            say(out, b": surface ")?;
-            count(out, s.0 as u64, b"")
-        }
-        Blamed::Both(n, s) => {
-            say(out, b": picture ")?;
-            count(out, n.0 as u64, b" on surface ")?;
-            count(out, s.0 as u64, b"")
+impl fmt::Display for Named {
+    fn fmt<W: fmt::Write>(&self, f: &mut fmt::Formatter<W>) -> fmt::Result {
+        match self.0 {
+            Blamed::Nothing => Ok(()),
+            Blamed::Picture(n) => write!(f, ": picture {}", n.0),
+            Blamed::Surface(s) => write!(f, ": surface {}", s.0),
+            Blamed::Both(n, s) => write!(f, ": picture {} on surface {}", n.0, s.0),
         }
     }
 }
 
 // The reply, counted from 1, that breaks a part, and what it does so with; `rest`: where the replies end within it, how
 // many bytes of it are there, else 0.
-pub(crate) fn broken<W: Write>(
-    out: &mut W,
-    number: u64,
-    part: u8,
-    rest: usize,
-    named: Blamed,
-) -> io::Result<()> {
-    say(out, b"broken at reply ")?;
-    count(out, number, b": ")?;
+pub(crate) fn broken<W: Write>(out: &mut W, number: u64, rest: usize, x: Broken) -> io::Result<()> {
+    write!(out, "broken at reply {number}: ")?;
     if rest == 0 {
-        say_part(out, part)?;
+        write!(out, "{}", x.part)?;
     } else {
-        say(out, b"the replies end within it, after ")?;
-        count_named(out, rest as u64, b" byte", b"")?;
+        let bytes = Count(rest as u64, "byte");
+        write!(out, "the replies end within it, after {bytes}")?;
     }
-    say(out, b" (part ")?;
-    count(out, part as u64, b")")?;
-    say_named(out, named)?;
-    say(out, b"\n")
+    writeln!(out, " (part {}){}", x.part.number(), Named(x.blamed))
 }
 
 // The accounts of a recording that keeps demand 3; `rest`: how many bytes of a last record are there that is not whole,
 // and has no reply.
 pub(crate) fn kept<W: Write>(out: &mut W, b: Book, number: u64, rest: usize) -> io::Result<()> {
     let t = b.tally;
-    say(out, b"kept: ")?;
-    count_named(out, b.begun, b" picture", b" begun, ")?;
-    count(out, t.handed, b" handed out, ")?;
-    count(out, t.thrown, b" thrown away, ")?;
-    count(out, watch::current(b) as u64, b" current, ")?;
-    count(out, watch::waiting(b) as u64, b" waiting, ")?;
-    count_named(out, watch::surfaces(b) as u64, b" surface", b" held, ")?;
-    count_named(out, t.lists, b" list", b" checked, ")?;
-    count_named(out, t.refused, b" refusal", b", ")?;
-    count_named(out, number, b" exchange", b"\n")?;
+    let begun = Count(b.begun, "picture");
+    write!(
+        out,
+        "kept: {begun} begun, {} handed out, {} thrown away, ",
+        t.handed, t.thrown
+    )?;
+    write!(
+        out,
+        "{} current, {} waiting, ",
+        watch::current(b),
+        watch::waiting(b)
+    )?;
+    let held = Count(watch::surfaces(b) as u64, "surface");
+    let lists = Count(t.lists, "list");
+    let refused = Count(t.refused, "refusal");
+    let exchanges = Count(number, "exchange");
+    writeln!(out, "{held} held, {lists} checked, {refused}, {exchanges}")?;
     if rest != 0 {
-        say(out, b"the records end with ")?;
-        count_named(
+        let bytes = Count(rest as u64, "byte");
+        writeln!(
             out,
-            rest as u64,
-            b" byte",
-            b" of a record that is not whole\n",
+            "the records end with {bytes} of a record that is not whole"
         )?;
     }
     Ok(())

@@ -7,8 +7,6 @@ use mathlib.Core.Bool.{Bool, true, false, cond, not, ◌||◌}
 use lib.IntN.{pos}
 use lib.ListN.{length}
 use Rattle.paper.specs.declared.Picture.{Picture}
-use Rattle.paper.specs.declared.Found.{Found}
-use Rattle.paper.specs.declared.Found.TheVariants.{Nothing, The}
 use Rattle.paper.specs.declared.Mark.TheVariants.{ShortTerm}
 use Rattle.paper.specs.declared.Limits.{Limits}
 use Rattle.paper.specs.Words.{keep, all_b, drop_first}
@@ -25,6 +23,7 @@ use Rattle.paper.proofs.Firsts.{lowest_first}
 use Rattle.paper.proofs.Moves.{drop_others, change_done}
 use Rattle.paper.proofs.Sound.{Sound, store_distinct, marked_distinct, raised_distinct}
 use Rattle.paper.proofs.LedgerTold.{sound_after, sound_fresh}
+use Rattle.std.proofs.Common.{Option, None, Some}
 
 -- the test, and what it tells of each two
 of_apart : (ps : List Picture) → apart ps ≡ true → Serials ps
@@ -54,11 +53,11 @@ agree_then m n f g a b =
 
 agree_hand : (always : Bool) (ps : List Picture) → Serials ps → Agree (hand_out always ps) (hand_by_serial always ps)
 unfolding hand_out hand_by_serial
-agree_hand always ps d = go (lowest Nothing ps) refl
+agree_hand always ps d = go (lowest None ps) refl
   where
-    go : (x : Found) → lowest Nothing ps ≡ x → Agree (hand_found always ps x) (taken_by_serial always ps x)
-    go Nothing e = record { same = refl; apart = d }
-    go (The p) e =
+    go : (x : Option Picture) → lowest None ps ≡ x → Agree (hand_found always ps x) (taken_by_serial always ps x)
+    go None e = record { same = refl; apart = d }
+    go (Some p) e =
         let f = lowest_first ps p e in
         split (always || not (is_marked p.mark))
         (λ u. rw (u, drop_others (is_it p) p ps d f) (record { same = refl; apart = pairs_keep OtherSerial (other p) ps d }))

@@ -11,7 +11,6 @@ use lib.ListN.{length, length-map}
 use borrow.Author.Tests.{ltb-false, le-ltb}
 use Rattle.paper.specs.declared.Mark.{Mark}
 use Rattle.paper.specs.declared.Picture.{Picture}
-use Rattle.paper.specs.declared.Found.{Found}
 use Rattle.paper.specs.declared.Limits.{Limits}
 use Rattle.paper.specs.declared.Current.{Current}
 use Rattle.paper.specs.Words.{keep, any_b, drop_first, change_first}
@@ -22,13 +21,13 @@ use Rattle.paper.specs.Output.{Moved, still, turns, lowest, is_it, leave, stay, 
 use Rattle.paper.specs.Begin.{marked_store, starts_over, no_prior_pics, room_made}
 use Rattle.paper.specs.Calls.{raised, stored, finished, drained, drained_now, discarded, configured_session}
 use Rattle.paper.specs.Step.{Decided, decide_of, step_of, session_after}
-use Rattle.paper.specs.declared.Found.TheVariants.{Nothing, The}
 use Rattle.paper.proofs.Bools as B
 use Rattle.paper.proofs.Bools.{split, not_both, neither, and_sub, by_case}
 use Rattle.paper.proofs.Firsts.{any_drop, any_change, lowest_first}
 use Rattle.paper.proofs.Quiet.{waitings, fewer, one_fewer, hand_fewer, few_wait, emptied_leaves}
 use Rattle.paper.proofs.Lasts.{by_begin}
 use Rattle.paper.proofs.Ways.{by_ways}
+use Rattle.std.proofs.Common.{Option, None, Some}
 
 unfoldable pub late : Limits → Picture → Bool
 late l p = p.waiting && leb l.latency p.count
@@ -73,11 +72,11 @@ calm_drop l t ps h c =
 
 calm_hand : (l : Limits) (always : Bool) (ps : List Picture) → Calm l ps → Calm l (hand_out always ps).pics
 unfolding hand_out
-calm_hand l always ps c = go (lowest Nothing ps) refl
+calm_hand l always ps c = go (lowest None ps) refl
   where
-    go : (x : Found) → lowest Nothing ps ≡ x → Calm l (hand_found always ps x).pics
-    go Nothing e = c
-    go (The p) e =
+    go : (x : Option Picture) → lowest None ps ≡ x → Calm l (hand_found always ps x).pics
+    go None e = c
+    go (Some p) e =
         let f = lowest_first ps p e in
         by_case (λ (m : Moved). Calm l m.pics) (always || not (is_marked p.mark)) (leave ps p) (stay ps p)
         (λ _. calm_drop l (is_it p) ps (omega (arith, one_fewer true p ps f)) c)

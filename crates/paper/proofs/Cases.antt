@@ -9,8 +9,6 @@ use lib.IntN.{ℤ, pos, negsuc}
 use Rattle.paper.specs.declared.Mark.TheVariants.{Unmarked, ShortTerm}
 use Rattle.paper.specs.declared.Picture.{Picture}
 use Rattle.paper.specs.declared.Wish.{Wish}
-use Rattle.paper.specs.declared.Prev.{Prev}
-use Rattle.paper.specs.declared.Now.{Now}
 use Rattle.paper.specs.Numbers.{a_serial, a_surface, serial_nos}
 use Rattle.paper.specs.State.{Session, Refs, no_refs}
 use Rattle.paper.specs.Replies.{Reply}
@@ -25,6 +23,10 @@ use Rattle.paper.specs.Begin.{no_rasl_pics, output_flag, no_prior_pics, msb, poc
 use Rattle.paper.specs.RefLists.{list0, list1, no_candidate, too_many, bad_entry}
 use Rattle.paper.specs.Calls.{raised}
 use Rattle.paper.specs.Step.{begin_refusal, begin_of, lists_refusal, lists_of, by_kind, decide_of, step_of}
+use Rattle.std.proofs.Common.{Option, None, Some}
+use Rattle.paper.specs.declared.Tid0.{Tid0}
+use Rattle.paper.specs.Poc.{tid0}
+use Rattle.paper.specs.declared.Current.{Current}
 
 -- POC of a begin with this k and lsb after the previous Tid0 picture q, Q; the POC that a long-term entry asks for, of
 -- k, POC, lsb and cycle; the reply to a lists record of this body
@@ -39,7 +41,7 @@ pub data Answer : Type 0 where
   rows : List ℕ → List ℕ → Answer
 
 -- a session of this k, with these stored, this previous Tid0 picture, current picture, its sets and next serial
-abbrev asked : ℕ → List Picture → Prev → Now → Refs → ℕ → Session
+abbrev asked : ℕ → List Picture → Option Tid0 → Option Current → Refs → ℕ → Session
 asked k ps q c x n =
     record {
       configured = true;
@@ -54,8 +56,8 @@ asked k ps q c x n =
     }
 
 -- the current picture 7; A is picture 1 and B is picture 2
-abbrev seven : Now
-seven = Now.Is (record { serial = a_serial 7; surface = a_surface 0; poc = pos 0; lsb = 0; msb = pos 0; output = true; valid = true })
+abbrev seven : Option Current
+seven = Some (record { serial = a_serial 7; surface = a_surface 0; poc = pos 0; lsb = 0; msb = pos 0; output = true; valid = true })
 
 abbrev before_aAfter_b : Refs
 before_aAfter_b = record { before = a_serial 1 ∷ []; after = a_serial 2 ∷ []; lt_curr = [] }
@@ -71,9 +73,9 @@ abbrev begin_record : ℕ → ℕ → List ℕ
 begin_record nal lsb = 12 ∷ 0 ∷ 2 ∷ 0 ∷ nal ∷ 0 ∷ 1 ∷ lsb % 256 ∷ lsb / 256 ∷ 7 ∷ 0 ∷ 0 ∷ 0 ∷ 0 ∷ 0 ∷ 0 ∷ []
 
 abbrev ask : Question → Answer
-ask (PocAfter k q Q lsb) = answer_of (decide_of (asked k [] (Prev.Tid0 q Q) Now.Idle no_refs 8) (begin_record 1 lsb)).reply
+ask (PocAfter k q Q lsb) = answer_of (decide_of (asked k [] (tid0 q Q) None no_refs 8) (begin_record 1 lsb)).reply
 ask (LongTerm k p lsb cycle) = number (long_poc (2 ^ k) p lsb cycle)
-ask (ListsOf body) = answer_of (decide_of (asked 4 [] Prev.Nothing seven before_aAfter_b 8) (4 ∷ 0 ∷ 3 ∷ 0 ∷ body)).reply
+ask (ListsOf body) = answer_of (decide_of (asked 4 [] None seven before_aAfter_b 8) (4 ∷ 0 ∷ 3 ∷ 0 ∷ body)).reply
 
 pub record Case : Type 0 where
   pub question : Question
@@ -109,7 +111,7 @@ abbrev on_surface7 : Picture
 on_surface7 = record { serial = a_serial 6; surface = a_surface 7; poc = pos 0; mark = ShortTerm; waiting = false; count = 0 }
 
 abbrev number_at : List Picture → ℕ → ℕ → ℕ
-number_at ps n nal = (decide_of (asked 4 ps Prev.Nothing Now.Idle no_refs n) (begin_record nal 0)).number
+number_at ps n nal = (decide_of (asked 4 ps None None no_refs n) (begin_record nal 0)).number
 
 pub eight : number_at [] 4294967294 19 ∷ number_at [] 4294967295 19 ∷ number_at [] 4294967295 10 ∷ number_at (on_surface7 ∷ []) 4294967295 19 ∷ number_at (on_surface7 ∷ []) 8 19 ∷ [] ≡ 0 ∷ 8 ∷ 5 ∷ 8 ∷ 7 ∷ []
 unfolding keep all_b any_b table first bit fields_of well_formed falling rising begin_ranges msb_of wishes_of wishes_in32 no_rasl_pics msb poc within begin_refusal begin_of by_kind decide_of

@@ -3,7 +3,7 @@
 use Prim.Native.Nat.{ℕ, ◌%◌, ◌^◌}
 use mathlib.Core.Path.{◌≡◌, refl, sym, ap, ◌∙◌}
 use mathlib.Core.List.{List, [], ◌∷◌, ◌++◌, append_assoc}
-use mathlib.Core.Option.{Option, none, some}
+use Rattle.std.proofs.Common.{Option, None, Some}
 use mathlib.Core.Bool.{Bool, true, false, cond, ◌&&◌}
 use native.Mathlib.Omega.{arith}
 use Rattle.paper.specs.Words.{any_b}
@@ -89,7 +89,7 @@ finished_later front ls behind more z e g =
     }
 
 -- none is finished in ls: in x ∷ ls it is the picture of x or none
-module _ (x : Exchange) (ls : List Exchange) (f : LastIs ls none) where
+module _ (x : Exchange) (ls : List Exchange) (f : LastIs ls None) where
   abbrev its_own : Bool
   its_own = (accepts begin_kind x && valid_in x) && ends ls
 
@@ -117,13 +117,13 @@ record LastIn (ls : List Exchange) : Type 0 where
   is : LastIs ls previous
 
 longer : (x : Exchange) (ls : List Exchange) (p : Option Exchange) → LastIs ls p → LastIn (x ∷ ls)
-longer x ls none f =
-    split (its_own x ls f) (λ e. record { previous = some x; is = own x ls f e })
-    (λ e. record { previous = none; is = λ y b g. not_own x ls f e y b g.before g refl })
-longer x ls (some y) g = record { previous = some y; is = record { behind = g.behind; finished = finished_later (x ∷ []) (x ∷ ls) ls g.behind y refl g.finished; last = g.last } }
+longer x ls None f =
+    split (its_own x ls f) (λ e. record { previous = Some x; is = own x ls f e })
+    (λ e. record { previous = None; is = λ y b g. not_own x ls f e y b g.before g refl })
+longer x ls (Some y) g = record { previous = Some y; is = record { behind = g.behind; finished = finished_later (x ∷ []) (x ∷ ls) ls g.behind y refl g.finished; last = g.last } }
 
 last_in : (ls : List Exchange) → LastIn ls
-last_in [] = record { previous = none; is = λ y b g. no_cons g.before _ y g.parts }
+last_in [] = record { previous = None; is = λ y b g. no_cons g.before _ y g.parts }
 last_in (x ∷ ls) = let t = last_in ls in longer x ls t.previous t.is
 
 -- where M is even a configure was accepted

@@ -9,11 +9,8 @@ use lib.Dec.{eqb, ltb, leb}
 use lib.ListN.{length}
 use borrow.Author.Tests.{le-ltb}
 use Rattle.paper.specs.declared.Picture.{Picture}
-use Rattle.paper.specs.declared.Found.{Found}
-use Rattle.paper.specs.declared.Found.TheVariants.{Nothing, The}
 use Rattle.paper.specs.declared.Limits.{Limits}
 use Rattle.paper.specs.declared.Current.{Current}
-use Rattle.paper.specs.declared.Now.TheVariants.{Is}
 use Rattle.paper.specs.Words.{keep, any_b}
 use Rattle.paper.specs.State.{Session}
 use Rattle.paper.specs.Output.{Moved, still, and_then, turns, lowest, hand_found, hand_out, emptied, due_late, due_full, hand_while}
@@ -21,6 +18,7 @@ use Rattle.paper.specs.Calls.{finished, drained, drained_now}
 use Rattle.paper.specs.DueWaits.{one_waits, due_over, hand_the, as_found, turn_due, hand_due, with_stored, Item9}
 use Rattle.paper.proofs.Bools.{left, or_right, split, not_both, any_mono}
 use Rattle.paper.proofs.Quiet.{waitings, lowest_none}
+use Rattle.std.proofs.Common.{Option, None, Some}
 
 -- ---- due means that one waits
 
@@ -61,22 +59,22 @@ module _ (l : Limits) (ps : List Picture) where
   pub none_due : length (waitings ps) ≡ 0 → due_late l ps ≡ false
   none_due z = split (due_late l ps) (λ e. not_both (one_waits ps) (due_waits e) (some_wait ps z)) (λ e. e)
 
-  found : due_late l ps ≡ true → lowest Nothing ps ≡ The (as_found (lowest Nothing ps))
-  found e = go (lowest Nothing ps) refl
+  found : due_late l ps ≡ true → lowest None ps ≡ Some (as_found (lowest None ps))
+  found e = go (lowest None ps) refl
     where
-      go : (x : Found) → lowest Nothing ps ≡ x → x ≡ The (as_found x)
-      go Nothing h = not_both (one_waits ps) (due_waits e) (some_wait ps (lowest_none Nothing ps h).1)
-      go (The p) h = refl
+      go : (x : Option Picture) → lowest None ps ≡ x → x ≡ Some (as_found x)
+      go None h = not_both (one_waits ps) (due_waits e) (some_wait ps (lowest_none None ps h).1)
+      go (Some p) h = refl
 
 -- ---- and handing out while due is what it was
 
-hands_found : (ps : List Picture) (x : Found) → x ≡ The (as_found x) → hand_the false ps (as_found x) ≡ hand_found false ps x
-hands_found ps Nothing e = absurd (let z : ◌≡◌ {A = ℕ} 0 1 = cc in omega arith)
-hands_found ps (The p) e = refl
+hands_found : (ps : List Picture) (x : Option Picture) → x ≡ Some (as_found x) → hand_the false ps (as_found x) ≡ hand_found false ps x
+hands_found ps None e = absurd (let z : ◌≡◌ {A = ℕ} 0 1 = cc in omega arith)
+hands_found ps (Some p) e = refl
 
 pub turn_same : (l : Limits) (ps : List Picture) → turn_due l ps ≡ cond (due_late l ps) (hand_out false ps) (still ps)
 unfolding hand_out
-turn_same l ps = split (due_late l ps) (λ e. rw e (hands_found ps (lowest Nothing ps) (found l ps e))) (λ e. rw e)
+turn_same l ps = split (due_late l ps) (λ e. rw e (hands_found ps (lowest None ps) (found l ps e))) (λ e. rw e)
 
 turns_same : (f g : List Picture → Moved) → ((qs : List Picture) → f qs ≡ g qs) → (n : ℕ) (ps : List Picture) → turns n f ps ≡ turns n g ps
 unfolding turns
@@ -101,7 +99,7 @@ finish : (s : Session) (c : Current) → finished s.limits s.store c ≡ turns (
 unfolding finished hand_due
 finish s c = sym (as_it_was s.limits (with_stored s c))
 
-drain : (s : Session) (c : Current) → s.current ≡ Is c → drained_now s ≡ and_then (finished s.limits s.store c) emptied
+drain : (s : Session) (c : Current) → s.current ≡ Some c → drained_now s ≡ and_then (finished s.limits s.store c) emptied
 unfolding drained
 drain s c e = rw e
 

@@ -9,14 +9,13 @@ use native.Mathlib.Omega.{arith}
 use lib.ListN.{length}
 use lib.Signed.{lt_z}
 use Rattle.paper.specs.declared.Picture.{Picture}
-use Rattle.paper.specs.declared.Found.{Found}
-use Rattle.paper.specs.declared.Found.TheVariants.{Nothing, The}
 use Rattle.paper.specs.Words.{keep, any_b, drop_first, change_first}
 use Rattle.paper.specs.Poc.{eq_z}
 use Rattle.paper.specs.Output.{below, lowest, is_it}
 use Rattle.paper.proofs.Whole.{lt_z_true, lt_z_is, lt_z_apart, eq_z_refl, eq_z_same, eq_z_true}
 use Rattle.paper.proofs.Bools.{both, left, right, split, not_both, or_left, or_right, by_case}
 use Rattle.paper.proofs.Every.{All, Mem}
+use Rattle.std.proofs.Common.{Option, None, Some}
 
 -- x is the first of which t holds
 abbrev pub First : {A : Type 0} → (A → Bool) → A → List A → Type 0
@@ -111,21 +110,21 @@ it_poc : (p q : Picture) → is_it p q ≡ true → q.poc ≡ p.poc
 it_poc p q i = eq_z_true q.poc p.poc (right q.waiting _ i)
 
 -- lower than one that is lower
-below_more : (p q : Picture) (b : Found) → lt_z p.poc q.poc ≡ true → below q b ≡ true → below p b ≡ true
-below_more p q Nothing l u = refl
-below_more p q (The r) l u = lt_z_is p.poc r.poc (omega (arith, lt_z_true p.poc q.poc l, lt_z_true q.poc r.poc u))
+below_more : (p q : Picture) (b : Option Picture) → lt_z p.poc q.poc ≡ true → below q b ≡ true → below p b ≡ true
+below_more p q None l u = refl
+below_more p q (Some r) l u = lt_z_is p.poc r.poc (omega (arith, lt_z_true p.poc q.poc l, lt_z_true q.poc r.poc u))
 
 -- it is what was found before, or the first of the list that waits with its POC, and lower than what was
-lowest_is : (b : Found) (ps : List Picture) (p : Picture) → lowest b ps ≡ The p → (b ≡ The p) ⊎ (First (is_it p) p ps × (below p b ≡ true))
+lowest_is : (b : Option Picture) (ps : List Picture) (p : Picture) → lowest b ps ≡ Some p → (b ≡ Some p) ⊎ (First (is_it p) p ps × (below p b ≡ true))
 unfolding lowest
 lowest_is b [] p e = inl e
 lowest_is b (q ∷ ps) p e =
-    ⊎_elim {C = (b ≡ The p) ⊎ (First (is_it p) p (q ∷ ps) × (below p b ≡ true))}
+    ⊎_elim {C = (b ≡ Some p) ⊎ (First (is_it p) p (q ∷ ps) × (below p b ≡ true))}
     (λ c. split (q.waiting && below q b) (λ t. inr (here t (is_the (rw t at c)))) (λ t. inl (rw t at c)))
     (λ m. split (q.waiting && below q b) (λ t. inr (later t m.0 (rw t at m.1))) (λ t. let u : below p b ≡ true = rw t at m.1 in inr (inr (passed t u, m.0), u)))
-    (lowest_is (cond (q.waiting && below q b) (The q) b) ps p e)
+    (lowest_is (cond (q.waiting && below q b) (Some q) b) ps p e)
   where
-    is_the : The q ≡ The p → p ≡ q
+    is_the : Some q ≡ Some p → p ≡ q
     is_the c = cc
 
     here : (q.waiting && below q b) ≡ true → p ≡ q → First (is_it p) p (q ∷ ps) × (below p b ≡ true)
@@ -142,10 +141,10 @@ lowest_is b (q ∷ ps) p e =
         split (is_it p q)
         (λ i. not_both (q.waiting && below q b) (both (it_waits p q i) (same_below b (it_poc p q i) u)) t) (λ i. i)
       where
-        same_below : (b : Found) → q.poc ≡ p.poc → below p b ≡ true → below q b ≡ true
-        same_below Nothing s u = refl
-        same_below (The r) s u = rw s u
+        same_below : (b : Option Picture) → q.poc ≡ p.poc → below p b ≡ true → below q b ≡ true
+        same_below None s u = refl
+        same_below (Some r) s u = rw s u
 
-pub lowest_first : (ps : List Picture) (p : Picture) → lowest Nothing ps ≡ The p → First (is_it p) p ps
+pub lowest_first : (ps : List Picture) (p : Picture) → lowest None ps ≡ Some p → First (is_it p) p ps
 lowest_first ps p e =
-    ⊎_elim {C = First (is_it p) p ps} (λ c. absurd (let z : ◌≡◌ {A = ℕ} 0 1 = cc in omega arith)) (λ m. m.0) (lowest_is Nothing ps p e)
+    ⊎_elim {C = First (is_it p) p ps} (λ c. absurd (let z : ◌≡◌ {A = ℕ} 0 1 = cc in omega arith)) (λ m. m.0) (lowest_is None ps p e)

@@ -13,7 +13,6 @@ use Rattle.paper.specs.declared.Serial.{Serial}
 use Rattle.paper.specs.declared.Limits.{Limits}
 use Rattle.paper.specs.declared.Picture.{Picture}
 use Rattle.paper.specs.declared.Current.{Current}
-use Rattle.paper.specs.declared.Now.{Now}
 use Rattle.paper.specs.Words.{keep, all_b, table}
 use Rattle.paper.specs.Numbers.{u8, bit, bytes32, missing, serial_nos}
 use Rattle.paper.specs.Kinds.{reply_to, malformed_reply}
@@ -32,6 +31,7 @@ use Rattle.paper.proofs.Bools.{left, right, split, not_both, by_case}
 use Rattle.paper.proofs.Quiet.{few_wait, emptied_leaves}
 use Rattle.paper.proofs.Sizes.{Shrinks, shrinks_then, shrinks_still, shrinks_while, shrinks_cleared, shrinks_emptied, shrinks_room, marked_length, tail_length, tail_fits, words_length}
 use Rattle.paper.proofs.Ways.{first_none, yes_of, Accepted, begun, listed, by_ways}
+use Rattle.std.proofs.Common.{Option, None, Some}
 
 pub record Fits (d : Decided) : Type 0 where
   pub room : length d.next.store ≤ 16
@@ -163,10 +163,10 @@ module _ (s : Session) (r : List ℕ) (i : length s.store ≤ 16) where
   unfolding drained
   drained_short e = go s.current e
     where
-      go : (x : Now) → (is_current x && full s) ≡ false → length (tail_bytes (and_then (on_now x (still s.store) (finished s.limits s.store)) emptied).tail) ≤ 400
-      go Now.Idle f =
+      go : (x : Option Current) → (is_current x && full s) ≡ false → length (tail_bytes (and_then (on_now x (still s.store) (finished s.limits s.store)) emptied).tail) ≤ 400
+      go None f =
           omega (arith, tail_fits s.store (and_then (still s.store) emptied) (shrinks_then s.store (still s.store) emptied (shrinks_still s.store) (shrinks_emptied s.store)))
-      go (Now.Is c) f =
+      go (Some c) f =
           let ps = map raised s.store ++ (stored c ∷ []) in
           let m = finished s.limits s.store c in
           omega (arith, tail_fits ps (and_then m emptied) (shrinks_then ps m emptied (finish_shrinks s.limits s.store c) (shrinks_emptied m.pics)), one_more s.store c, spare s f)
@@ -182,9 +182,9 @@ module _ (s : Session) (r : List ℕ) (i : length s.store ≤ 16) where
   unfolding discarded
   discarded_short = go s.current
     where
-      go : (x : Now) → length (tail_bytes (joined (on_now x quiet dropped) (cleared s.store).tail)) ≤ 400
-      go Now.Idle = omega (arith, tail_fits s.store (cleared s.store) (shrinks_cleared s.store))
-      go (Now.Is c) =
+      go : (x : Option Current) → length (tail_bytes (joined (on_now x quiet dropped) (cleared s.store).tail)) ≤ 400
+      go None = omega (arith, tail_fits s.store (cleared s.store) (shrinks_cleared s.store))
+      go (Some c) =
           let k = shrinks_cleared s.store in
           let t = (cleared s.store).tail in
           omega (arith, tail_length (joined (dropped c) t), k.shows, k.frees, few_wait s.store, length-append (dropped c).thrown t.thrown, dropped_short c)

@@ -9,9 +9,7 @@ use lib.Dec.{eqb, ltb, leb}
 use lib.IntN.{ℤ, pos, suc_ℤ, pred_ℤ, ◌+ℤ◌, ◌-ℤ◌, suc_ℤ-*ℤ, pred_ℤ-*ℤ, zero-*ℤ}
 use borrow.Author.Tests.{ltb-true, leb-true}
 use Rattle.paper.specs.declared.Limits.{Limits}
-use Rattle.paper.specs.declared.Prev.{Prev}
 use Rattle.paper.specs.declared.Current.{Current}
-use Rattle.paper.specs.declared.Now.{Now}
 use Rattle.paper.specs.Words.{all_b}
 use Rattle.paper.specs.Records.{Fields, limits_of, fields_of}
 use Rattle.paper.specs.State.{Session, fresh, on_now, modulus}
@@ -25,29 +23,32 @@ use Rattle.paper.specs.Step.{Decided, decide_of, step_of, session_after}
 use Rattle.paper.proofs.Bools.{not_both, by_case}
 use Rattle.paper.proofs.Nearest.{poc_rule}
 use Rattle.paper.proofs.Ways.{Accepted, yes_of, by_ways}
+use Rattle.std.proofs.Common.{Option, None, Some}
+use Rattle.paper.specs.declared.Tid0.{Tid0}
+use Rattle.paper.specs.Poc.{tid0}
 
-abbrev pub PrevOk : ℕ → Prev → Type 0
-PrevOk M Prev.Nothing = Unit {0}
-PrevOk M (Prev.Tid0 q Q) = (q < M) × Multiple M Q
+abbrev pub PrevOk : ℕ → Option Tid0 → Type 0
+PrevOk M None = Unit {0}
+PrevOk M (Some p) = (p.lsb < M) × Multiple M p.msb
 
-abbrev pub NowOk : ℕ → Now → Type 0
-NowOk M Now.Idle = Unit {0}
-NowOk M (Now.Is c) = (c.lsb < M) × Multiple M c.msb
+abbrev pub NowOk : ℕ → Option Current → Type 0
+NowOk M None = Unit {0}
+NowOk M (Some c) = (c.lsb < M) × Multiple M c.msb
 
 pub record InStep (s : Session) : Type 0 where
   pub prev : PrevOk (modulus s.limits) s.prev
   pub now : NowOk (modulus s.limits) s.current
   pub wide : s.configured ≡ true → 4 ≤ s.limits.k
 
-msb_multiple : (M : ℕ) (p : Prev) (l : ℕ) → PrevOk M p → Multiple M (msb_of M p l)
+msb_multiple : (M : ℕ) (p : Option Tid0) (l : ℕ) → PrevOk M p → Multiple M (msb_of M p l)
 unfolding msb_of
-msb_multiple M Prev.Nothing l a = record { times = pos 0; is = sym (zero-*ℤ (pos M)) }
-msb_multiple M (Prev.Tid0 q Q) l a =
+msb_multiple M None l a = record { times = pos 0; is = sym (zero-*ℤ (pos M)) }
+msb_multiple M (Some p) l a =
     let m = a.1 in
-    by_case (Multiple M) (ltb l q && leb (M / 2) (q - l)) _ _
+    by_case (Multiple M) (ltb l p.lsb && leb (M / 2) (p.lsb - l)) _ _
     (λ _. record { times = suc_ℤ m.times; is = ap (λ (z : ℤ). z +ℤ pos M) m.is ∙ sym (suc_ℤ-*ℤ m.times (pos M)) })
     (λ _.
-    by_case (Multiple M) (ltb q l && ltb (M / 2) (l - q)) _ _
+    by_case (Multiple M) (ltb p.lsb l && ltb (M / 2) (l - p.lsb)) _ _
     (λ _. record { times = pred_ℤ m.times; is = ap (λ (z : ℤ). z -ℤ pos M) m.is ∙ sym (pred_ℤ-*ℤ m.times (pos M)) })
     (λ _. m))
 
@@ -63,8 +64,8 @@ lsb_below M f e =
     (fifth (taken f.nal && leb f.tid 6 && (not (irap f.nal) || eqb f.tid 0) && ltb f.flags 4) (ltb f.lsb M) (all_b (long_ok M) f.lt)
     (leb (entries_of f) 16) (falling (ℤ.pos 0) f.neg) (rising (ℤ.pos 0) f.pos) (not (idr f.nal) || (eqb f.lsb 0 && eqb (entries_of f) 0)) e)
 
-prev_after_lem : (M : ℕ) (q : Prev) (c : Current) → PrevOk M q → NowOk M (Now.Is c) → PrevOk M (prev_after q c)
-prev_after_lem M q c a b = by_case (PrevOk M) c.valid (Prev.Tid0 c.lsb c.msb) q (λ _. b) (λ _. a)
+prev_after_lem : (M : ℕ) (q : Option Tid0) (c : Current) → PrevOk M q → NowOk M (Some c) → PrevOk M (prev_after q c)
+prev_after_lem M q c a b = by_case (PrevOk M) c.valid (tid0 c.lsb c.msb) q (λ _. b) (λ _. a)
 
 four_bits : (l : Limits) → configure_ranges l ≡ true → 4 ≤ l.k
 unfolding configure_ranges
@@ -81,19 +82,19 @@ module _ (s : Session) (r : List ℕ) (i : InStep s) where
   abbrev M : ℕ
   M = modulus s.limits
 
-  begun_ok : (f : Fields) → Accepted s f → NowOk M (Now.Is (begun_current s f))
+  begun_ok : (f : Fields) → Accepted s f → NowOk M (Some (begun_current s f))
   unfolding begun_current msb
   begun_ok f z =
-      (lsb_below M f z.ranges, msb_multiple M (prev_for s f) f.lsb (by_case (PrevOk M) (starts_over s f) Prev.Nothing s.prev (λ _. tt) (λ _. i.prev)))
+      (lsb_below M f z.ranges, msb_multiple M (prev_for s f) f.lsb (by_case (PrevOk M) (starts_over s f) None s.prev (λ _. tt) (λ _. i.prev)))
 
   now_prev : PrevOk M (prev_now s)
   now_prev = go s.current i.now
     where
-      go : (x : Now) → NowOk M x → PrevOk M (on_now x s.prev (prev_after s.prev))
-      go Now.Idle a = i.prev
-      go (Now.Is c) a = prev_after_lem M s.prev c i.prev a
+      go : (x : Option Current) → NowOk M x → PrevOk M (on_now x s.prev (prev_after s.prev))
+      go None a = i.prev
+      go (Some c) a = prev_after_lem M s.prev c i.prev a
 
-  finish_prev : (c : Current) → s.current ≡ Now.Is c → PrevOk M (prev_after s.prev c)
+  finish_prev : (c : Current) → s.current ≡ Some c → PrevOk M (prev_after s.prev c)
   finish_prev c e = prev_after_lem M s.prev c i.prev (rw e at i.now)
 
   pub in_step_lem : InStep (decide_of s r).next
@@ -125,10 +126,10 @@ pub in_step_after : (rs : List (List ℕ)) → InStep (session_after fresh rs)
 in_step_after rs = always_in_step fresh rs in_step_fresh
 
 -- POC in one line: of an accepted begin that does not start over, with a previous Tid0 picture of lsb q and MSB Q
-pub poc_in_one_line : (s : Session) (f : Fields) (q : ℕ) (Q : ℤ) → InStep s → Accepted s f → starts_over s f ≡ false → s.prev ≡ Prev.Tid0 q Q
+pub poc_in_one_line : (s : Session) (f : Fields) (q : ℕ) (Q : ℤ) → InStep s → Accepted s f → starts_over s f ≡ false → s.prev ≡ tid0 q Q
     → TheOnly (modulus s.limits) (Q +ℤ pos q) f.lsb (poc s f)
 unfolding poc
 poc_in_one_line s f q Q i z e p =
-    let o : PrevOk (modulus s.limits) (Prev.Tid0 q Q) = rw p at i.prev in
+    let o : PrevOk (modulus s.limits) (tid0 q Q) = rw p at i.prev in
     let k : 4 ≤ min s.limits.k 16 = omega (arith, i.wide (yes_of s.configured z.configured)) in
     rw (e, p) (poc_rule (min s.limits.k 16) q f.lsb Q o.1.times k o.1.is o.0 (lsb_below (modulus s.limits) f z.ranges))

@@ -3,7 +3,7 @@
 use Prim.Native.Nat.{ℕ}
 use mathlib.Core.Path.{◌≡◌, refl, ap, ◌∙◌, subst}
 use mathlib.Core.List.{List, [], ◌∷◌, ◌++◌, append_assoc}
-use mathlib.Core.Option.{Option, none, some}
+use Rattle.std.proofs.Common.{Option, None, Some}
 use mathlib.Core.Bool.{Bool, true, false, ◌||◌}
 use lib.Dec.{eqb}
 use borrow.Author.Tests.{eqb-true}
@@ -47,17 +47,17 @@ finish_other b x h f =
     (λ t. t)
 
 abbrev configured : Exchange → Notes
-configured c = record { k = u8 c.said k_place; current = none; previous = none }
+configured c = record { k = u8 c.said k_place; current = None; previous = None }
 
 noted_configure : (n : Notes) (c : Exchange) → accepts configure_kind c ≡ true → noted n c ≡ configured c
 unfolding noted
 noted_configure n c e = rw e
 
-noted_begin : (n : Notes) (x : Exchange) → accepts begin_kind x ≡ true → noted n x ≡ record { k = n.k; current = some x; previous = n.previous }
+noted_begin : (n : Notes) (x : Exchange) → accepts begin_kind x ≡ true → noted n x ≡ record { k = n.k; current = Some x; previous = n.previous }
 unfolding noted
 noted_begin n x e = rw (other_kind begin_kind configure_kind x refl e, e)
 
-noted_finish : (n : Notes) (x : Exchange) → finishes x ≡ true → noted n x ≡ record { k = n.k; current = none; previous = previous_after n.current n.previous }
+noted_finish : (n : Notes) (x : Exchange) → finishes x ≡ true → noted n x ≡ record { k = n.k; current = None; previous = previous_after n.current n.previous }
 unfolding noted
 noted_finish n x e = rw (finish_other configure_kind x (λ n k. rw (n, k)) e, finish_other begin_kind x (λ n k. rw (n, k)) e, e)
 
@@ -107,24 +107,24 @@ record OpenIn (w : List Exchange) (c : Exchange) : Type 0 where
   still : any_b moves during ≡ false
 
 abbrev Opened : List Exchange → Option Exchange → Type 0
-Opened w none = Unit {0}
-Opened w (some c) = OpenIn w c
+Opened w None = Unit {0}
+Opened w (Some c) = OpenIn w c
 
 abbrev NoneFinished : List Exchange → Type 0
-NoneFinished ls = LastIs ls none
+NoneFinished ls = LastIs ls None
 
 module _ (n : Notes) (w ls : List Exchange) (x : Exchange) (f : NoneFinished (w ++ (x ∷ ls))) where
   finish_leaves : (o : Option Exchange) (p : Option Exchange) → Opened w o → finishes x ≡ true → previous_after o p ≡ p
   unfolding previous_after
-  finish_leaves none p a e = refl
-  finish_leaves (some c) p a e =
+  finish_leaves None p a e = refl
+  finish_leaves (Some c) p a e =
       split (valid_in c)
       (λ v. absurd (f c ls (record { before = a.before; during = a.during; end = x; parts = ap (λ (l : List Exchange). l ++ (x ∷ ls)) a.parts ∙ append_assoc a.before (c ∷ a.during) (x ∷ ls); begins = a.begins; valid = v; still = a.still; finished = e })))
       (λ v. rw v)
 
   still_open : (o : Option Exchange) → moves x ≡ false → Opened w o → Opened (w ++ (x ∷ [])) o
-  still_open none e a = tt
-  still_open (some c) e a =
+  still_open None e a = tt
+  still_open (Some c) e a =
       record {
         before = a.before;
         during = a.during ++ (x ∷ []);
@@ -170,10 +170,10 @@ module _ {ls : List Exchange} {y : Exchange} {behind : List Exchange} (g : Finis
 
   module _ (n : Notes) where
     abbrev begun : Notes
-    begun = record { k = n.k; current = some y; previous = n.previous }
+    begun = record { k = n.k; current = Some y; previous = n.previous }
 
     abbrev ended : Notes
-    ended = record { k = n.k; current = none; previous = some y }
+    ended = record { k = n.k; current = None; previous = Some y }
 
     ends : noted begun g.end ≡ ended
     unfolding previous_after
@@ -187,7 +187,7 @@ module _ {ls : List Exchange} {y : Exchange} {behind : List Exchange} (g : Finis
         ∙ ap (λ (m : Notes). notes (noted m g.end) behind) (quiet_notes begun g.during none_during.0 g.still)
         ∙ ap (λ (m : Notes). notes m behind) ends
 
-  becomes : (n : Notes) → NoneFinished behind → (notes n ls).previous ≡ some y
+  becomes : (n : Notes) → NoneFinished behind → (notes n ls).previous ≡ Some y
   becomes n f =
       let m = notes n g.before in
       ap (λ (q : List Exchange). (notes n q).previous) g.parts
@@ -207,5 +207,5 @@ module _ (xs ls : List Exchange) (c : Exchange) (l : LastConfigure xs c ls) wher
 
   -- the previous Tid0 picture is the last valid one that was finished since then, or none where none was
   pub previous_told : (p : Option Exchange) → LastIs ls p → (notes empty xs).previous ≡ p
-  previous_told none f = ap (λ (m : Notes). m.previous) since ∙ previous_stays (configured c) [] ls l.last f tt
-  previous_told (some y) t = ap (λ (m : Notes). m.previous) since ∙ becomes t.finished l.last (configured c) t.last
+  previous_told None f = ap (λ (m : Notes). m.previous) since ∙ previous_stays (configured c) [] ls l.last f tt
+  previous_told (Some y) t = ap (λ (m : Notes). m.previous) since ∙ becomes t.finished l.last (configured c) t.last

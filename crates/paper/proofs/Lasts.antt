@@ -8,26 +8,25 @@ use Rattle.paper.specs.declared.Serial.{Serial}
 use Rattle.paper.specs.declared.Limits.{Limits}
 use Rattle.paper.specs.declared.Mark.{Mark}
 use Rattle.paper.specs.declared.Picture.{Picture}
-use Rattle.paper.specs.declared.Found.{Found}
 use Rattle.paper.specs.Words.{keep}
 use Rattle.paper.specs.Records.{Fields}
 use Rattle.paper.specs.State.{Session, is_marked, modulus}
 use Rattle.paper.specs.Sets.{Wishes, used_by, unused_by, is_in, marked, in_order, mark_all, mark_only, long_set, long_marked, sets_of, marks_of, unmarked_if}
 use Rattle.paper.specs.Output.{Moved, still, turns, lowest, is_it, leave, stay, quieted, hand_found, hand_out, cleared, emptied, in_use, removed, hand_while, due, before_decoding}
 use Rattle.paper.specs.Begin.{wishes, starts_over, marked_store}
-use Rattle.paper.specs.declared.Found.TheVariants.{Nothing, The}
 use Rattle.paper.proofs.Bools.{by_case}
 use Rattle.paper.proofs.Every.{All, all_keep}
 use Rattle.paper.proofs.Firsts.{all_drop, all_change}
+use Rattle.std.proofs.Common.{Option, None, Some}
 
 module _ (P : Picture → Type 0) (last : (p : Picture) → P p → P (quieted p)) where
   all_hand : (always : Bool) (ps : List Picture) → All P ps → All P (hand_out always ps).pics
   unfolding hand_out
-  all_hand always ps a = go (lowest Nothing ps)
+  all_hand always ps a = go (lowest None ps)
     where
-      go : (x : Found) → All P (hand_found always ps x).pics
-      go Nothing = a
-      go (The p) =
+      go : (x : Option Picture) → All P (hand_found always ps x).pics
+      go None = a
+      go (Some p) =
           by_case (λ (m : Moved). All P m.pics) (always || not (is_marked p.mark)) (leave ps p) (stay ps p)
           (λ _. all_drop P (is_it p) ps a) (λ _. all_change P (is_it p) quieted last ps a)
 

@@ -11,7 +11,6 @@ use Rattle.paper.specs.declared.Serial.{Serial}
 use Rattle.paper.specs.declared.Wish.{Wish}
 use Rattle.paper.specs.declared.Mark.{Mark}
 use Rattle.paper.specs.declared.Picture.{Picture}
-use Rattle.paper.specs.declared.Found.{Found}
 use Rattle.paper.specs.Words.{keep, any_b}
 use Rattle.paper.specs.Numbers.{missing, a_serial, same_serial}
 use Rattle.paper.specs.Records.{Fields}
@@ -22,13 +21,13 @@ use Rattle.paper.specs.Begin.{wishes, sets, unmarked_store, marked_store, starts
 use Rattle.paper.specs.declared.Line.{Line}
 use Rattle.paper.specs.Ledger.{names}
 use Rattle.paper.specs.Statement.{line}
-use Rattle.paper.specs.declared.Found.TheVariants.{Nothing, The}
 use Rattle.paper.proofs.Bools as B
 use Rattle.paper.proofs.Bools.{both, left, right, split, not_both, or_left, or_right, by_case}
 use Rattle.paper.proofs.Every.{All, all_append, all_both, all_more, all_true, any_kept, every}
 use Rattle.paper.proofs.Apart.{Distinct, Told, told_apart, serials}
 use Rattle.paper.proofs.Firsts.{first_mem, any_same, lowest_first}
 use Rattle.paper.proofs.Moves.{Tells, drop_others, same_eqb, tells_hand, tells_still, tells_removed}
+use Rattle.std.proofs.Common.{Option, None, Some}
 
 -- a stored picture of serial n that has a mark
 abbrev pub marks : Serial → Picture → Bool
@@ -44,11 +43,11 @@ keeps_removed ps n e =
 
 keeps_hand : (ps : List Picture) → Distinct ps → Keeps ps (hand_out false ps).pics
 unfolding hand_out
-keeps_hand ps d n h = go (lowest Nothing ps) refl
+keeps_hand ps d n h = go (lowest None ps) refl
   where
-    go : (x : Found) → lowest Nothing ps ≡ x → any_b (marks n) (hand_found false ps x).pics ≡ true
-    go Nothing e = h
-    go (The p) e =
+    go : (x : Option Picture) → lowest None ps ≡ x → any_b (marks n) (hand_found false ps x).pics ≡ true
+    go None e = h
+    go (Some p) e =
         let f = lowest_first ps p e in
         by_case (λ (x : Moved). any_b (marks n) x.pics ≡ true) (not (is_marked p.mark)) (leave ps p) (stay ps p)
         (λ u. rw (drop_others (is_it p) p ps (serials ps d) f) (any_kept (marks n) (λ (q : Picture). not (eqb p.serial.0 q.serial.0)) ps (all_more (Told p) _ (λ q t k. stays p q u t k) ps (told_apart p ps d (first_mem (is_it p) p ps f))) h))

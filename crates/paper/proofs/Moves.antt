@@ -1,7 +1,6 @@
 -- What the store does is what its tail tells.
 use Rattle.paper.specs.declared.Surface.{Surface}
 use Rattle.paper.specs.declared.Picture.{Picture}
-use Rattle.paper.specs.declared.Found.{Found}
 use Rattle.paper.specs.Words.{keep, all_b, any_b, drop_first, change_first}
 use Rattle.paper.specs.State.{is_marked}
 use Rattle.paper.specs.Output.{Tail, joined, Moved, still, and_then, turns, lowest, is_it, shown, quieted, leave, stay, hand_found, hand_out, cleared, emptied, in_use, removed, hand_while}
@@ -17,7 +16,6 @@ use mathlib.Core.Bool.{Bool, true, false, cond, not, ◌&&◌, ◌||◌}
 use lib.Dec.{eqb}
 use lib.ListN.{length}
 use borrow.Author.Tests.{eq-eqb}
-use Rattle.paper.specs.declared.Found.TheVariants.{Nothing, The}
 use Rattle.paper.proofs.Whole.{eq_z_refl}
 use Rattle.paper.proofs.Bools as B
 use Rattle.paper.proofs.Bools.{both, left, right, split, not_both, or_right, by_case}
@@ -25,6 +23,7 @@ use Rattle.paper.proofs.Events.{Runs, runs_append, runs_join}
 use Rattle.paper.proofs.Every.{All, Mem, all_at, all_keep, all_map, all_more, all_true, any_mem, keep_all, keep_by, map_by}
 use Rattle.paper.proofs.Apart.{Other, Distinct, OtherSerial, Serials, Told, told_apart, pairs_keep, distinct_map, serials, serial_flip, flip}
 use Rattle.paper.proofs.Firsts.{First, first_mem, waits_first, lowest_first}
+use Rattle.std.proofs.Common.{Option, None, Some}
 
 pub record Tells (ps : List Picture) (m : Moved) : Type 0 where
   pub runs : Runs (events m.tail) (map line ps) (map line m.pics)
@@ -185,11 +184,11 @@ module _ (p : Picture) (ps : List Picture) (d : Distinct ps) (f : First (is_it p
 
 pub tells_hand : (always : Bool) (ps : List Picture) → Distinct ps → Tells ps (hand_out always ps)
 unfolding hand_out
-tells_hand always ps d = go (lowest Nothing ps) refl
+tells_hand always ps d = go (lowest None ps) refl
   where
-    go : (x : Found) → lowest Nothing ps ≡ x → Tells ps (hand_found always ps x)
-    go Nothing e = tells_still ps d
-    go (The p) e =
+    go : (x : Option Picture) → lowest None ps ≡ x → Tells ps (hand_found always ps x)
+    go None e = tells_still ps d
+    go (Some p) e =
         let f = lowest_first ps p e in
         by_case (Tells ps) (always || not (is_marked p.mark)) (leave ps p) (stay ps p) (λ _. tells_leave p ps d f) (λ _. tells_stay p ps d f)
 

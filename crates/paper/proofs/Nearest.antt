@@ -12,10 +12,10 @@ use lib.Pow.{pow_pos}
 use lib.IntN.{ℤ, pos, negsuc, neg_ℤ, nat_abs, suc_ℤ, pred_ℤ, ◌+ℤ◌, ◌-ℤ◌, ◌*ℤ◌, suc_ℤ-*ℤ, pred_ℤ-*ℤ}
 use lib.Signed.{◌≤ℤ◌}
 use mir.Facts.{and_yes, and_no}
-use Rattle.paper.specs.declared.Prev.TheVariants.{Tid0}
 use Rattle.paper.specs.Poc.{mod_z, msb_of, poc_of}
 use Rattle.paper.specs.Nearest.{Nearest, Closest, TheOnly, nearest_to}
 use Rattle.paper.proofs.Whole.{up, dn, up_add, up_sub, up_mul, dn_mul, up_pos, dn_pos, up_neg_is, dn_neg_is, abs_up, abs_dn, abs_least, ext, lt_of, le_of, to_lt, to_le, of_eq}
+use Rattle.paper.specs.Poc.{tid0}
 
 either : {X Y : Type 0} (t : Bool) → (T t → X) → (T (not t) → Y) → X ⊎ Y
 either true f g = inl (f tt)
@@ -171,7 +171,7 @@ module _ (M q l : ℕ) (Q t : ℤ) (is : Q ≡ t *ℤ pos M) (hq : q < M) (hl : 
       let b : l ≤ q + M / 2 = ⊎_elim (λ n. let h = nltb→le q l n in omega arith) (λ n. let h = nltb→le (M / 2) (l - q) n in omega arith) (and_no (ltb q l) (ltb (M / 2) (l - q)) w) in
       near M q l Q Q t hl is (omega arith) (omega arith)
 
-  poc_near : Nearest M (Q +ℤ pos q) l (poc_of M (Tid0 q Q) l)
+  poc_near : Nearest M (Q +ℤ pos q) l (poc_of M (tid0 q Q) l)
   unfolding msb_of
   poc_near =
       split (ltb l q && leb (M / 2) (q - l)) (Q +ℤ pos M) (cond (ltb q l && ltb (M / 2) (l - q)) (Q -ℤ pos M) Q) (λ (z : ℤ). Nearest M (Q +ℤ pos q) l (z +ℤ pos l)) rises
@@ -268,11 +268,11 @@ pow_even zero h = absurd (omega arith)
 pow_even (suc k) h = ap (λ (x : ℕ). x % 2) (pow-suc 2 k) ∙ mul-mod_left (2 ^ k) 2
 
 -- for every k at once
-pub poc_rule : (k q l : ℕ) (Q t : ℤ) → 4 ≤ k → Q ≡ t *ℤ pos (2 ^ k) → q < 2 ^ k → l < 2 ^ k → TheOnly (2 ^ k) (Q +ℤ pos q) l (poc_of (2 ^ k) (Tid0 q Q) l)
+pub poc_rule : (k q l : ℕ) (Q t : ℤ) → 4 ≤ k → Q ≡ t *ℤ pos (2 ^ k) → q < 2 ^ k → l < 2 ^ k → TheOnly (2 ^ k) (Q +ℤ pos q) l (poc_of (2 ^ k) (tid0 q Q) l)
 poc_rule k q l Q t hk e hq hl =
     let n = poc_near (2 ^ k) q l Q t e hq hl (pow_even k (omega arith)) in
     record {
       is = n;
-      alone = λ w m. near_one (2 ^ k) l (Q +ℤ pos q) w (poc_of (2 ^ k) (Tid0 q Q) l) (pow_pos k) m n;
-      closest = closest (2 ^ k) l (Q +ℤ pos q) (poc_of (2 ^ k) (Tid0 q Q) l) (pow_pos k) n;
+      alone = λ w m. near_one (2 ^ k) l (Q +ℤ pos q) w (poc_of (2 ^ k) (tid0 q Q) l) (pow_pos k) m n;
+      closest = closest (2 ^ k) l (Q +ℤ pos q) (poc_of (2 ^ k) (tid0 q Q) l) (pow_pos k) n;
     }

@@ -3,7 +3,7 @@
 use Prim.Native.Nat.{ℕ, ◌%◌, ◌^◌, ◌<◌, min}
 use mathlib.Core.Path.{◌≡◌, refl, sym, ap, ◌∙◌, subst}
 use mathlib.Core.List.{List, [], ◌∷◌, ◌++◌}
-use mathlib.Core.Option.{Option, none, some}
+use Rattle.std.proofs.Common.{Option, None, Some}
 use mathlib.Core.Bool.{Bool, true, false, ◌&&◌}
 use native.Mathlib.Omega.{arith}
 use lib.Dec.{eqb}
@@ -13,8 +13,6 @@ use mir.Syntax.{w32}
 use mir.Facts.{to_z-of_z, Fits-of_z}
 use borrow.Author.Tests.{ne_eqb, ltb-true}
 use Rattle.paper.specs.declared.Limits.{Limits}
-use Rattle.paper.specs.declared.Prev.{Prev}
-use Rattle.paper.specs.declared.Now.{Now}
 use Rattle.paper.specs.declared.Reading.{Reading}
 use Rattle.paper.specs.Numbers.{u8, u16, bytes32, bit}
 use Rattle.paper.specs.Kinds.{begin_kind, nal_place, number_place, flags_place, reply_to}
@@ -43,6 +41,9 @@ use Rattle.paper.proofs.InWords.{notes_append, width_told, previous_told}
 use Rattle.paper.proofs.Covered.{since_any}
 use Rattle.paper.proofs.Normal.{in_range}
 use Rattle.paper.proofs.Rooms.{any_room}
+use Rattle.paper.specs.declared.Tid0.{Tid0}
+use Rattle.paper.specs.Poc.{tid0}
+use Rattle.paper.specs.declared.Current.{Current}
 
 -- ---- whole numbers
 
@@ -59,18 +60,18 @@ abbrev pub heard_of : Reading → List ℕ → Decided → Exchange
 heard_of st r d = record { said = r; answered = bytes_of d.reply; reading = st }
 
 -- the begin of the current picture
-abbrev NowAs : Option Exchange → Now → Type 0
-NowAs none Now.Idle = Unit {0}
-NowAs none (Now.Is c) = ⊥
-NowAs (some x) Now.Idle = ⊥
-NowAs (some x) (Now.Is c) = (lsb_in x ≡ c.lsb) × (msb_in x ≡ c.msb) × (valid_in x ≡ c.valid)
+abbrev NowAs : Option Exchange → Option Current → Type 0
+NowAs None None = Unit {0}
+NowAs None (Some c) = ⊥
+NowAs (Some x) None = ⊥
+NowAs (Some x) (Some c) = (lsb_in x ≡ c.lsb) × (msb_in x ≡ c.msb) × (valid_in x ≡ c.valid)
 
 -- of an accepted begin
 record Begins (s : Session) (r : List ℕ) (x : Exchange) : Type 0 where
   poc_is : poc_in x ≡ poc s (fields_of r)
   over_is : starts_over_in x ≡ starts_over s (fields_of r)
   lsb_is : lsb_in x ≡ (fields_of r).lsb
-  now_is : NowAs (some x) (Now.Is (begun_current s (fields_of r)))
+  now_is : NowAs (Some x) (Some (begun_current s (fields_of r)))
 
 poc_fits : (s : Session) (f : Fields) → within s f ≡ true → in32 (poc s f) ≡ true
 unfolding within
@@ -129,14 +130,14 @@ width_is : (l : Limits) → configure_ranges l ≡ true → min (min l.k 16) 16 
 width_is l e = omega (arith, in_range l e)
 
 -- finish, and drain with a picture current or none: the previous Tid0 picture after it
-previous_is : (p : Option Exchange) (q : Prev) → prev_in p ≡ q → (o : Option Exchange) (w : Now) → NowAs o w → prev_in (previous_after o p) ≡ on_now w q (prev_after q)
+previous_is : (p : Option Exchange) (q : Option Tid0) → prev_in p ≡ q → (o : Option Exchange) (w : Option Current) → NowAs o w → prev_in (previous_after o p) ≡ on_now w q (prev_after q)
 unfolding previous_after
-previous_is p q e none Now.Idle a = e
-previous_is p q e none (Now.Is c) a = absurd a
-previous_is p q e (some x) Now.Idle a = absurd a
-previous_is p q e (some x) (Now.Is c) a =
+previous_is p q e None None a = e
+previous_is p q e None (Some c) a = absurd a
+previous_is p q e (Some x) None a = absurd a
+previous_is p q e (Some x) (Some c) a =
     rw a.2
-    (split c.valid (λ v. rw v (λ i. Prev.Tid0 (a.0 i) (a.1 i))) (λ v. rw v e))
+    (split c.valid (λ v. rw v (λ i. tid0 (a.0 i) (a.1 i))) (λ v. rw v e))
 
 record Noted (n : Notes) (st : Reading) (r : List ℕ) (d : Decided) : Type 0 where
   agrees : Agree (noted n (heard_of st r d)) d.next
@@ -155,7 +156,7 @@ module _ (n : Notes) (s : Session) (r : List ℕ) (st : Reading) (a : Agree n s)
         configure = λ k c b. record { agrees = rw k (record { width = ap (λ (x : ℕ). 2 ^ x) (sym (width_is (limits_of r) c)); prev = refl; now = tt }) };
         begin = λ k z. record { agrees = rw k (record { width = a.width; prev = a.prev; now = (begins s r st z).now_is }) };
         lists = λ k c e z. record { agrees = rw k a };
-        finish = λ k c e z. record { agrees = rw k (record { width = a.width; prev = previous_is n.previous s.prev a.prev n.current (Now.Is c) (rw e at a.now); now = tt }) };
+        finish = λ k c e z. record { agrees = rw k (record { width = a.width; prev = previous_is n.previous s.prev a.prev n.current (Some c) (rw e at a.now); now = tt }) };
         drain = λ k b. record { agrees = rw k (record { width = a.width; prev = previous_is n.previous s.prev a.prev n.current s.current a.now; now = tt }) };
         discard = λ k. record { agrees = rw k (record { width = a.width; prev = a.prev; now = tt }) };
         end = λ k. record { agrees = rw k (record { width = a.width; prev = a.prev; now = a.now }) };
@@ -165,7 +166,7 @@ module _ (n : Notes) (s : Session) (r : List ℕ) (st : Reading) (a : Agree n s)
 -- ---- at an accepted begin
 
 record TrueAt (n : Notes) (x : Exchange) : Type 0 where
-  near : (y : Exchange) → starts_over_in x ≡ false → n.previous ≡ some y → TheOnly (modulus_in n) (poc_in y) (lsb_in x) (poc_in x)
+  near : (y : Exchange) → starts_over_in x ≡ false → n.previous ≡ Some y → TheOnly (modulus_in n) (poc_in y) (lsb_in x) (poc_in x)
   sum : poc_in x ≡ poc_after (modulus_in n) n.previous x
   even : modulus_in n % 2 ≡ 0
 
@@ -174,12 +175,12 @@ poc_over : (s : Session) (f : Fields) → starts_over s f ≡ true → poc s f �
 unfolding poc msb_of
 poc_over s f e = rw e (ap pos (omega arith))
 
-poc_first : (s : Session) (f : Fields) → s.prev ≡ Prev.Nothing → poc s f ≡ pos f.lsb
+poc_first : (s : Session) (f : Fields) → s.prev ≡ None → poc s f ≡ pos f.lsb
 unfolding poc msb_of
 poc_first s f e = split (starts_over s f) (λ o. rw o (ap pos (omega arith))) (λ o. rw (o, e) (ap pos (omega arith)))
 
 module _ (n : Notes) (s : Session) (r : List ℕ) (st : Reading) (a : Agree n s) (i : InStep s) where
-  previous_prev : (y : Exchange) → n.previous ≡ some y → s.prev ≡ Prev.Tid0 (lsb_in y) (msb_in y)
+  previous_prev : (y : Exchange) → n.previous ≡ Some y → s.prev ≡ tid0 (lsb_in y) (msb_in y)
   previous_prev y e = sym a.prev ∙ ap prev_in e
 
   module _ (z : Accepted s (fields_of r)) where
@@ -192,7 +193,7 @@ module _ (n : Notes) (s : Session) (r : List ℕ) (st : Reading) (a : Agree n s)
     says : Begins s r x
     says = begins s r st z
 
-    near_begin : (y : Exchange) → starts_over_in x ≡ false → n.previous ≡ some y → TheOnly (modulus_in n) (poc_in y) (lsb_in x) (poc_in x)
+    near_begin : (y : Exchange) → starts_over_in x ≡ false → n.previous ≡ Some y → TheOnly (modulus_in n) (poc_in y) (lsb_in x) (poc_in x)
     near_begin y o e =
         let t = poc_in_one_line s f (lsb_in y) (msb_in y) i z (sym says.over_is ∙ o) (previous_prev y e) in
         rw (a.width, says.lsb_is, says.poc_is) (subst (λ (p : ℤ). TheOnly (modulus s.limits) p f.lsb (poc s f)) (minus_plus (poc_in y) (lsb_in y)) t)
@@ -202,8 +203,8 @@ module _ (n : Notes) (s : Session) (r : List ℕ) (st : Reading) (a : Agree n s)
 
     sum_begin : (p : Option Exchange) → n.previous ≡ p → poc_in x ≡ poc_after (modulus_in n) p x
     unfolding poc_after
-    sum_begin none e = says.poc_is ∙ poc_first s f (sym a.prev ∙ ap prev_in e) ∙ ap pos (sym says.lsb_is)
-    sum_begin (some y) e =
+    sum_begin None e = says.poc_is ∙ poc_first s f (sym a.prev ∙ ap prev_in e) ∙ ap pos (sym says.lsb_is)
+    sum_begin (Some y) e =
         split (starts_over_in x)
         (λ o. rw o (says.poc_is ∙ poc_over s f (sym says.over_is ∙ o) ∙ ap pos (sym says.lsb_is)))
         (λ o. rw o (sym ((near_begin y o e).alone _ (sum_near (modulus_in n) (lsb_in x) (poc_in y) below even_begin))))
@@ -238,9 +239,9 @@ module _ (n : Notes) (s : Session) (r : List ℕ) (st : Reading) (a : Agree n s)
         abandon = λ k c e. other _ 8 k refl;
       })
 
-  multiple_of : (y : Exchange) → n.previous ≡ some y → Multiple (modulus_in n) (msb_in y)
+  multiple_of : (y : Exchange) → n.previous ≡ Some y → Multiple (modulus_in n) (msb_in y)
   multiple_of y e =
-      let o : PrevOk (modulus s.limits) (Prev.Tid0 (lsb_in y) (msb_in y)) = rw (previous_prev y e) at i.prev in
+      let o : PrevOk (modulus s.limits) (tid0 (lsb_in y) (msb_in y)) = rw (previous_prev y e) at i.prev in
       rw a.width o.1
 
 -- ---- along some exchanges: at each place, of the notes and of the exchange behind them
@@ -250,7 +251,7 @@ Next n [] = Unit {0}
 Next n (x ∷ xs) = accepts begin_kind x ≡ true → TrueAt n x
 
 record Here (n : Notes) (xs : List Exchange) : Type 0 where
-  multiple : (y : Exchange) → n.previous ≡ some y → Multiple (modulus_in n) (msb_in y)
+  multiple : (y : Exchange) → n.previous ≡ Some y → Multiple (modulus_in n) (msb_in y)
   next : Next n xs
 
 abbrev Along : Notes → List Exchange → Type 0
@@ -324,8 +325,8 @@ told_all st n s (r ∷ rs) a =
 -- IRAP with NoRaslOutputFlag, whatever is before it
 over_lsb : (M : ℕ) (p : Option Exchange) (x : Exchange) → starts_over_in x ≡ true → poc_after M p x ≡ pos (lsb_in x)
 unfolding poc_after
-over_lsb M none x o = refl
-over_lsb M (some y) x o = rw o
+over_lsb M None x o = refl
+over_lsb M (Some y) x o = rw o
 
 module _ (xs : List Exchange) (t : Session) (told : Told empty xs t) where
   here : (bs ls : List Exchange) → xs ≡ bs ++ ls → Here (notes empty bs) ls
@@ -339,9 +340,9 @@ module _ (xs : List Exchange) (t : Session) (told : Told empty xs t) where
     unfolding poc_after
     in_words_here c since l =
         record {
-          near = λ y o f. subst (λ (k : ℕ). TheOnly (2 ^ k) (poc_in y) (lsb_in x) (poc_in x)) (width_told bs since c l) (true_here.near y o (previous_told bs since c l (some y) f));
+          near = λ y o f. subst (λ (k : ℕ). TheOnly (2 ^ k) (poc_in y) (lsb_in x) (poc_in x)) (width_told bs since c l) (true_here.near y o (previous_told bs since c l (Some y) f));
           over = λ o. true_here.sum ∙ over_lsb (modulus_in (notes empty bs)) (notes empty bs).previous x o;
-          first = λ f. true_here.sum ∙ ap (λ (p : Option Exchange). poc_after (modulus_in (notes empty bs)) p x) (previous_told bs since c l none f);
+          first = λ f. true_here.sum ∙ ap (λ (p : Option Exchange). poc_after (modulus_in (notes empty bs)) p x) (previous_told bs since c l None f);
         }
 
   pub item_told : Item12 xs t

@@ -6,22 +6,21 @@ use mathlib.Core.Bool.{Bool, true, false, cond, not, ◌&&◌, ◌||◌}
 use native.Mathlib.Omega.{arith}
 use lib.ListN.{length}
 use Rattle.paper.specs.declared.Picture.{Picture}
-use Rattle.paper.specs.declared.Found.{Found}
 use Rattle.paper.specs.Words.{keep}
 use Rattle.paper.specs.State.{is_marked}
 use Rattle.paper.specs.Output.{Moved, still, turns, below, lowest, leave, stay, quieted, is_it, hand_found, hand_out, cleared, emptied, hand_while}
-use Rattle.paper.specs.declared.Found.TheVariants.{Nothing, The}
 use Rattle.paper.proofs.Bools.{split, by_case}
 use Rattle.paper.proofs.Firsts.{First, waits_first, drop_keep, change_keep, lowest_first}
+use Rattle.std.proofs.Common.{Option, None, Some}
 
 -- nothing is thrown away by a turn
 hand_throws : (always : Bool) (ps : List Picture) → (hand_out always ps).tail.thrown ≡ []
 unfolding hand_out
-hand_throws always ps = go (lowest Nothing ps)
+hand_throws always ps = go (lowest None ps)
   where
-    go : (x : Found) → (hand_found always ps x).tail.thrown ≡ []
-    go Nothing = refl
-    go (The p) = by_case (λ (m : Moved). m.tail.thrown ≡ []) (always || not (is_marked p.mark)) _ _ (λ _. refl) (λ _. refl)
+    go : (x : Option Picture) → (hand_found always ps x).tail.thrown ≡ []
+    go None = refl
+    go (Some p) = by_case (λ (m : Moved). m.tail.thrown ≡ []) (always || not (is_marked p.mark)) _ _ (λ _. refl) (λ _. refl)
 
 turns_throw : (f : List Picture → Moved) → ((qs : List Picture) → (f qs).tail.thrown ≡ []) → (n : ℕ) (ps : List Picture) → (turns n f ps).tail.thrown ≡ []
 unfolding turns
@@ -38,18 +37,18 @@ unfoldable pub waitings : List Picture → List Picture
 waitings ps = keep (λ (p : Picture). p.waiting) ps
 
 -- where nothing is found, nothing waits
-pub lowest_none : (b : Found) (ps : List Picture) → lowest b ps ≡ Nothing → (b ≡ Nothing) × (length (waitings ps) ≡ 0)
+pub lowest_none : (b : Option Picture) (ps : List Picture) → lowest b ps ≡ None → (b ≡ None) × (length (waitings ps) ≡ 0)
 unfolding lowest waitings keep
 lowest_none b [] e = (e, refl)
 lowest_none b (q ∷ ps) e =
-    let k = lowest_none (cond (q.waiting && below q b) (The q) b) ps e in
+    let k = lowest_none (cond (q.waiting && below q b) (Some q) b) ps e in
     split (q.waiting && below q b)
     (λ t. absurd (never q (rw t at k.0)))
     (λ t.
-    let n : b ≡ Nothing = rw t at k.0 in
+    let n : b ≡ None = rw t at k.0 in
     (n, rw (not_there q (rw n at t)) k.1))
   where
-    never : (q : Picture) → The q ≡ Nothing → ⊥
+    never : (q : Picture) → Some q ≡ None → ⊥
     never q e = let z : ◌≡◌ {A = ℕ} 0 1 = cc in omega arith
 
     not_there : (q : Picture) → (q.waiting && true) ≡ false → q.waiting ≡ false
@@ -72,11 +71,11 @@ one_fewer false p ps f = change_keep (λ (q : Picture). q.waiting) (is_it p) p (
 
 pub hand_fewer : (always : Bool) (ps : List Picture) (n : ℕ) → length (waitings ps) ≤ suc n → length (waitings (hand_out always ps).pics) ≤ n
 unfolding hand_out
-hand_fewer always ps n h = go (lowest Nothing ps) refl
+hand_fewer always ps n h = go (lowest None ps) refl
   where
-    go : (x : Found) → lowest Nothing ps ≡ x → length (waitings (hand_found always ps x).pics) ≤ n
-    go Nothing e = omega (arith, (lowest_none Nothing ps e).1)
-    go (The p) e = omega (arith, one_fewer (always || not (is_marked p.mark)) p ps (lowest_first ps p e))
+    go : (x : Option Picture) → lowest None ps ≡ x → length (waitings (hand_found always ps x).pics) ≤ n
+    go None e = omega (arith, (lowest_none None ps e).1)
+    go (Some p) e = omega (arith, one_fewer (always || not (is_marked p.mark)) p ps (lowest_first ps p e))
 
 all_out : (n : ℕ) (ps : List Picture) → length (waitings ps) ≤ n → length (waitings (turns n (hand_out true) ps).pics) ≡ 0
 unfolding turns

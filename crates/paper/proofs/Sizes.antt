@@ -3,7 +3,6 @@ use Rattle.paper.specs.declared.Serial.{Serial}
 use Rattle.paper.specs.declared.Surface.{Surface}
 use Rattle.paper.specs.declared.Picture.{Picture}
 use Rattle.paper.specs.declared.Shown.{Shown}
-use Rattle.paper.specs.declared.Found.{Found}
 use Rattle.paper.specs.declared.Limits.{Limits}
 use Rattle.paper.specs.Words.{keep, flat}
 use Rattle.paper.specs.Numbers.{bytes32, serial_nos, surface_nos}
@@ -19,11 +18,11 @@ use mathlib.Core.List.{List, [], ◌∷◌, ◌++◌}
 use mathlib.Core.Bool.{Bool, true, false, cond, not, ◌&&◌, ◌||◌}
 use native.Mathlib.Omega.{arith}
 use lib.ListN.{length, length-append, length-map}
-use Rattle.paper.specs.declared.Found.TheVariants.{Nothing, The}
 use Rattle.paper.proofs.Bools.{split, by_case}
 use Rattle.paper.proofs.Firsts.{drop_length, change_length, lowest_first}
 use Rattle.paper.proofs.Quiet.{waitings, fewer, one_fewer, few_wait}
 use Rattle.paper.proofs.Lasts.{by_begin}
+use Rattle.std.proofs.Common.{Option, None, Some}
 
 pub record Shrinks (ps : List Picture) (m : Moved) : Type 0 where
   pub shows : length m.tail.handed + length m.tail.thrown + length (waitings m.pics) ≤ length (waitings ps)
@@ -42,11 +41,11 @@ shrinks_then ps m f a b =
 
 pub shrinks_hand : (always : Bool) (ps : List Picture) → Shrinks ps (hand_out always ps)
 unfolding hand_out
-shrinks_hand always ps = go (lowest Nothing ps) refl
+shrinks_hand always ps = go (lowest None ps) refl
   where
-    go : (x : Found) → lowest Nothing ps ≡ x → Shrinks ps (hand_found always ps x)
-    go Nothing e = shrinks_still ps
-    go (The p) e =
+    go : (x : Option Picture) → lowest None ps ≡ x → Shrinks ps (hand_found always ps x)
+    go None e = shrinks_still ps
+    go (Some p) e =
         let f = lowest_first ps p e in
         by_case (Shrinks ps) (always || not (is_marked p.mark)) (leave ps p) (stay ps p)
         (λ _. record { shows = omega (arith, one_fewer true p ps f); frees = omega (arith, drop_length (is_it p) p ps f) })

@@ -12,7 +12,6 @@ use Rattle.paper.specs.declared.Serial.{Serial}
 use Rattle.paper.specs.declared.Surface.{Surface}
 use Rattle.paper.specs.declared.Picture.{Picture}
 use Rattle.paper.specs.declared.Current.{Current}
-use Rattle.paper.specs.declared.Now.{Now}
 use Rattle.paper.specs.Words.{keep, all_b, any_b}
 use Rattle.paper.specs.Numbers.{missing, same_serial}
 use Rattle.paper.specs.Kinds.{configure_kind, finish_kind, drain_kind, discard_kind, end_kind, abandon_kind, reply_to, malformed_reply}
@@ -42,6 +41,7 @@ use Rattle.paper.proofs.Quiet.{while_throws, emptied_throws, emptied_leaves}
 use Rattle.paper.proofs.Members.{begin_names}
 use Rattle.paper.proofs.Ways.{Accepted, begun, listed, by_ways}
 use Rattle.paper.proofs.Lasts.{all_while, all_before, by_begin}
+use Rattle.std.proofs.Common.{Option, None, Some}
 
 -- the current picture finished, if there is one
 abbrev finished_now : Session → Moved
@@ -140,7 +140,7 @@ refs_named x H e =
     all_names (all_refs (refs_of x)) H (all_append (Names H) (x.before ++ x.after) x.lt_curr (all_first (Names H) (x.before ++ x.after) x.foll a2) lt)
 
 -- a session with no current picture
-sound_idle : (s : Session) (ps : List Picture) → s.store ≡ ps → s.current ≡ Now.Idle → s.refs ≡ no_refs → Distinct ps → All (Fine s.next) ps → s.next ≤ 4294967295 → Sound s
+sound_idle : (s : Session) (ps : List Picture) → s.store ≡ ps → s.current ≡ None → s.refs ≡ no_refs → Distinct ps → All (Fine s.next) ps → s.next ≤ 4294967295 → Sound s
 unfolding names all_b
 sound_idle s ps e c k d b n =
     record {
@@ -153,10 +153,10 @@ sound_idle s ps e c k d b n =
 free_line : (x : Surface) (ps : List Picture) → any_b (held_by x) ps ≡ false → not (any_b (lies x.0) (map line ps)) ≡ true
 free_line x ps e = rw (B.any_map (lies x.0) line ps, e)
 
-none_current : (x : Now) → is_current x ≡ false → none (on_now x [] (λ (c : Current). current_line c ∷ [])) ≡ true
+none_current : (x : Option Current) → is_current x ≡ false → none (on_now x [] (λ (c : Current). current_line c ∷ [])) ≡ true
 unfolding none
-none_current Now.Idle e = refl
-none_current (Now.Is c) e = sym e
+none_current None e = refl
+none_current (Some c) e = sym e
 
 -- of step 5 only the clear throws away, and it leaves nothing
 begin_clears : (s : Session) (f : Fields) → clearing (begun_of s f) (room_made s f).tail (map line (room_made s f).pics) ≡ true
@@ -196,7 +196,7 @@ module _ (s : Session) (i : Sound s) where
   marked_distinct f =
       by_begin Distinct (λ g ps h q. distinct_map g (λ p. record { serial = ap (λ (x : Picture). x.serial.0) (h p).1; surface = ap (λ (x : Picture). x.surface.0) (h p).1 }) ps q) s f store_distinct
 
-  module _ (c : Current) (e : s.current ≡ Now.Is c) where
+  module _ (c : Current) (e : s.current ≡ Some c) where
     with_current : Distinct (s.store ++ (stored c ∷ []))
     with_current = rw e at i.distinct
 
@@ -216,15 +216,15 @@ module _ (s : Session) (r : List ℕ) (i : Sound s) (bytes : all_b (λ (b : ℕ)
   held_fit : All FitLine ((ledger_of s).held ++ (ledger_of s).current)
   held_fit = go s.current i.below
     where
-      go : (x : Now) → All (Fine s.next) (s.store ++ on_now x [] (λ (c : Current). stored c ∷ [])) → All FitLine (map line s.store ++ on_now x [] (λ (c : Current). current_line c ∷ []))
-      go Now.Idle a = rw (append-nil (map line s.store)) (lines_fit s.store (rw (append-nil s.store) at a))
-      go (Now.Is c) a = rw (map-append line s.store (stored c ∷ [])) at (lines_fit (s.store ++ (stored c ∷ [])) a)
+      go : (x : Option Current) → All (Fine s.next) (s.store ++ on_now x [] (λ (c : Current). stored c ∷ [])) → All FitLine (map line s.store ++ on_now x [] (λ (c : Current). current_line c ∷ []))
+      go None a = rw (append-nil (map line s.store)) (lines_fit s.store (rw (append-nil s.store) at a))
+      go (Some c) a = rw (map-append line s.store (stored c ∷ [])) at (lines_fit (s.store ++ (stored c ∷ [])) a)
 
   store_below : All (Fine s.next) s.store
   store_below = all_first _ s.store (on_now s.current [] (λ (c : Current). stored c ∷ [])) i.below
 
   -- with a current picture
-  module _ (c : Current) (e : s.current ≡ Now.Is c) where
+  module _ (c : Current) (e : s.current ≡ Some c) where
     current_below : All (Fine s.next) (s.store ++ (stored c ∷ []))
     current_below = rw e at i.below
 
@@ -300,9 +300,9 @@ module _ (s : Session) (r : List ℕ) (i : Sound s) (bytes : all_b (λ (b : ℕ)
   landed_now : Landed (finished_now s)
   landed_now = go s.current refl
     where
-      go : (x : Now) → s.current ≡ x → Landed (on_now x (still s.store) (finished s.limits s.store))
-      go Now.Idle e = record { runs = rw (e, append-nil (map line s.store)) (tells_still s.store (store_distinct s i)).runs; throws = refl; apart = store_distinct s i }
-      go (Now.Is c) e = record { runs = rw e (finish_runs c e); throws = finish_throws c e; apart = finish_distinct c e }
+      go : (x : Option Current) → s.current ≡ x → Landed (on_now x (still s.store) (finished s.limits s.store))
+      go None e = record { runs = rw (e, append-nil (map line s.store)) (tells_still s.store (store_distinct s i)).runs; throws = refl; apart = store_distinct s i }
+      go (Some c) e = record { runs = rw e (finish_runs c e); throws = finish_throws c e; apart = finish_distinct c e }
 
   drained_runs : Runs (events (drained_now s).tail) ((ledger_of s).held ++ (ledger_of s).current) []
   unfolding drained
@@ -319,7 +319,7 @@ module _ (s : Session) (r : List ℕ) (i : Sound s) (bytes : all_b (λ (b : ℕ)
   drained_leaves = emptied_leaves (finished_now s).pics
 
   -- drain and configure differ in the session that they leave
-  good_drained : (t : Session) (kind : ℕ) → t.store ≡ (drained_now s).pics → t.current ≡ Now.Idle → t.refs ≡ no_refs → t.next ≡ s.next → (kind ≡ configure_kind) ⊎ (kind ≡ drain_kind)
+  good_drained : (t : Session) (kind : ℕ) → t.store ≡ (drained_now s).pics → t.current ≡ None → t.refs ≡ no_refs → t.next ≡ s.next → (kind ≡ configure_kind) ⊎ (kind ≡ drain_kind)
       → Good s r (accepted t kind (drained_now s).tail)
   unfolding tell none
   good_drained t kind a b c n k =
@@ -343,14 +343,14 @@ module _ (s : Session) (r : List ℕ) (i : Sound s) (bytes : all_b (λ (b : ℕ)
   unfolding tell none discarded
   good_discard = go s.current refl
     where
-      go : (x : Now) → s.current ≡ x → Good s r (accepted (discarded_session s) discard_kind (joined (on_now x quiet dropped) (cleared s.store).tail))
-      go Now.Idle e =
+      go : (x : Option Current) → s.current ≡ x → Good s r (accepted (discarded_session s) discard_kind (joined (on_now x quiet dropped) (cleared s.store).tail))
+      go None e =
           record {
             tells = rw (e, append-nil (map line s.store)) (ledgers (clears s.store (store_distinct s i)).leads refl (ok_gone _ (none (cleared s.store).tail.thrown) _ false (clears s.store (store_distinct s i)).allowed (nothing (clears s.store (store_distinct s i)).leads)));
             sound = sound_idle _ [] refl refl refl tt tt i.small;
             fit = (omega arith, (λ z. omega arith), (λ z. omega arith), fit_tail (cleared s.store).tail _ _ (lines_fit s.store store_below) (clears s.store (store_distinct s i)));
           }
-      go (Now.Is c) e =
+      go (Some c) e =
           record {
             tells = rw e (ledgers (discard_runs c e).leads refl (ok_gone _ (none (joined (dropped c) (cleared s.store).tail).thrown) _ true (discard_runs c e).allowed (nothing (discard_runs c e).leads)));
             sound = sound_idle _ [] refl refl refl tt tt i.small;
@@ -425,7 +425,7 @@ module _ (s : Session) (r : List ℕ) (i : Sound s) (bytes : all_b (λ (b : ℕ)
         }
 
   -- lists
-  module _ (c : Current) (e : s.current ≡ Now.Is c) where
+  module _ (c : Current) (e : s.current ≡ Some c) where
     abbrev lines : List Line
     lines = map line s.store ++ (current_line c ∷ [])
 

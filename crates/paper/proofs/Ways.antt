@@ -9,7 +9,6 @@ use lib.Dec.{eqb, leb}
 use lib.ListN.{length}
 use borrow.Author.Tests.{eqb-true, eqb-false, leb-true}
 use Rattle.paper.specs.declared.Current.{Current}
-use Rattle.paper.specs.declared.Now.{Now}
 use Rattle.paper.specs.Words.{Test, ◌gives◌, first, any_b}
 use Rattle.paper.specs.Numbers.{missing}
 use Rattle.paper.specs.Kinds.{configure_kind, begin_kind, lists_kind, finish_kind, drain_kind, discard_kind, end_kind, abandon_kind, reply_to, malformed_reply}
@@ -25,6 +24,7 @@ use Rattle.paper.specs.Replies.{Reply}
 use Rattle.paper.specs.Step.{Decided, refused, accepted, unless, configure_refusal, configure_of, held_by, begin_refusal, begun_of, begin_of, lists_refusal, lists_at, lists_of, finish_at, finish_of, drain_of, discard_of, end_of, abandon_of, by_kind, decide_of}
 use Rattle.paper.proofs.Bools.{left, right, split, by_case}
 use Rattle.paper.proofs.Every.{All}
+use Rattle.std.proofs.Common.{Option, None, Some}
 
 -- the first test of an order that gives 0 fails, and the others give 0
 pub first_none : (b : Bool) (n : ℕ) (ts : List Test) → (n ≡ 0 → ⊥) → first (b gives n ∷ ts) ≡ 0 → (b ≡ false) × (first ts ≡ 0)
@@ -74,12 +74,12 @@ pub record Ways (s : Session) (r : List ℕ) (Q : Decided → Type 0) : Type 0 w
   pub no : (kind n : ℕ) → kind_of r ≡ kind → 0 < kind → kind ≤ abandon_kind → 0 < n → n < 13 → Q (refused s (reply_to kind) n)
   pub configure : kind_of r ≡ configure_kind → configure_ranges (limits_of r) ≡ true → (is_current s.current && full s) ≡ false → Q (accepted (configured_session s (limits_of r)) configure_kind (drained_now s).tail)
   pub begin : kind_of r ≡ begin_kind → Accepted s (fields_of r) → Q (begun s (fields_of r))
-  pub lists : kind_of r ≡ lists_kind → (c : Current) → s.current ≡ Now.Is c → lists_refusal s c (slice_of r) ≡ 0 → Q (listed s (slice_of r) c)
-  pub finish : kind_of r ≡ finish_kind → (c : Current) → s.current ≡ Now.Is c → full s ≡ false → Q (accepted (finished_session s c) finish_kind (finished s.limits s.store c).tail)
+  pub lists : kind_of r ≡ lists_kind → (c : Current) → s.current ≡ Some c → lists_refusal s c (slice_of r) ≡ 0 → Q (listed s (slice_of r) c)
+  pub finish : kind_of r ≡ finish_kind → (c : Current) → s.current ≡ Some c → full s ≡ false → Q (accepted (finished_session s c) finish_kind (finished s.limits s.store c).tail)
   pub drain : kind_of r ≡ drain_kind → (is_current s.current && full s) ≡ false → Q (accepted (drained_session s) drain_kind (drained_now s).tail)
   pub discard : kind_of r ≡ discard_kind → Q (accepted (discarded_session s) discard_kind (discarded s.store s.current).tail)
   pub end : kind_of r ≡ end_kind → Q (accepted (ended_session s) end_kind quiet)
-  pub abandon : kind_of r ≡ abandon_kind → (c : Current) → s.current ≡ Now.Is c → Q (accepted (abandoned_session s) abandon_kind (dropped c))
+  pub abandon : kind_of r ≡ abandon_kind → (c : Current) → s.current ≡ Some c → Q (accepted (abandoned_session s) abandon_kind (dropped c))
 
 module _ (s : Session) (r : List ℕ) (Q : Decided → Type 0) (w : Ways s r Q) where
   or_no : (kind n : ℕ) (d : Decided) → kind_of r ≡ kind → 0 < kind → kind ≤ abandon_kind → n < 13 → (n ≡ 0 → Q d) → Q (unless s kind n d)
@@ -110,17 +110,17 @@ module _ (s : Session) (r : List ℕ) (Q : Decided → Type 0) (w : Ways s r Q) 
   unfolding lists_of
   way_lists k = go s.current refl
     where
-      go : (x : Now) → s.current ≡ x → Q (on_now x (refused s (reply_to lists_kind) 4) (lists_at s (slice_of r)))
-      go Now.Idle e = w.no 3 4 k (omega arith) (omega arith) (omega arith) (omega arith)
-      go (Now.Is c) e = or_no 3 (lists_refusal s c (slice_of r)) _ k (omega arith) (omega arith) (lists_below c) (w.lists k c e)
+      go : (x : Option Current) → s.current ≡ x → Q (on_now x (refused s (reply_to lists_kind) 4) (lists_at s (slice_of r)))
+      go None e = w.no 3 4 k (omega arith) (omega arith) (omega arith) (omega arith)
+      go (Some c) e = or_no 3 (lists_refusal s c (slice_of r)) _ k (omega arith) (omega arith) (lists_below c) (w.lists k c e)
 
   way_finish : kind_of r ≡ finish_kind → Q (finish_of s)
   unfolding finish_of
   way_finish k = go s.current refl
     where
-      go : (x : Now) → s.current ≡ x → Q (on_now x (refused s (reply_to finish_kind) 4) (finish_at s))
-      go Now.Idle e = w.no 4 4 k (omega arith) (omega arith) (omega arith) (omega arith)
-      go (Now.Is c) e =
+      go : (x : Option Current) → s.current ≡ x → Q (on_now x (refused s (reply_to finish_kind) 4) (finish_at s))
+      go None e = w.no 4 4 k (omega arith) (omega arith) (omega arith) (omega arith)
+      go (Some c) e =
           or_no 4 (first (full s gives 9 ∷ [])) _ k (omega arith) (omega arith) (first_below (full s gives 9 ∷ []) (omega arith, tt))
           (λ z. w.finish k c e (first_none (full s) 9 [] (λ f. omega arith) z).0)
 
@@ -134,9 +134,9 @@ module _ (s : Session) (r : List ℕ) (Q : Decided → Type 0) (w : Ways s r Q) 
   unfolding abandon_of
   way_abandon k = go s.current refl
     where
-      go : (x : Now) → s.current ≡ x → Q (on_now x (refused s (reply_to abandon_kind) 4) (λ (c : Current). accepted (abandoned_session s) abandon_kind (dropped c)))
-      go Now.Idle e = w.no 8 4 k (omega arith) (omega arith) (omega arith) (omega arith)
-      go (Now.Is c) e = w.abandon k c e
+      go : (x : Option Current) → s.current ≡ x → Q (on_now x (refused s (reply_to abandon_kind) 4) (λ (c : Current). accepted (abandoned_session s) abandon_kind (dropped c)))
+      go None e = w.no 8 4 k (omega arith) (omega arith) (omega arith) (omega arith)
+      go (Some c) e = w.abandon k c e
 
   -- a well-formed record of no kind from 1 to 7 is an abandon
   last_kind : well_formed r ≡ true → eqb (kind_of r) configure_kind ≡ false → eqb (kind_of r) begin_kind ≡ false → eqb (kind_of r) lists_kind ≡ false → eqb (kind_of r) finish_kind ≡ false → eqb (kind_of r) drain_kind ≡ false → eqb (kind_of r) discard_kind ≡ false → eqb (kind_of r) end_kind ≡ false → kind_of r ≡ abandon_kind

@@ -1,9 +1,7 @@
 -- Begin: its five steps in a session.
 use Rattle.std.specs.Prelude.{◌+◌, List, Bool, false, cond, not, ◌&&◌, ℤ}
 use Rattle.paper.specs.declared.Picture.{Picture}
-use Rattle.paper.specs.declared.Prev.{Prev}
 use Rattle.paper.specs.declared.Current.{Current}
-use Rattle.paper.specs.declared.Now.TheVariants as Now
 use Rattle.paper.specs.Numbers.{bit, a_serial}
 use Rattle.paper.specs.Nal.{irap}
 use Rattle.paper.specs.State.{Session, modulus}
@@ -12,6 +10,8 @@ use Rattle.paper.specs.Flags.{no_rasl_output, pic_output, no_prior_output, valid
 use Rattle.paper.specs.Poc.{msb_of, poc_of, in32}
 use Rattle.paper.specs.Sets.{Sets, Wishes, wishes_of, wishes_in32, unmarked_if, sets_of, marks_of, refs_of}
 use Rattle.paper.specs.Output.{Moved, before_decoding}
+use Rattle.std.specs.Prelude.{Option, None, Some}
+use Rattle.paper.specs.declared.Tid0.{Tid0}
 
 -- Step 1
 unfoldable pub no_rasl_pics : Session → Fields → Bool
@@ -28,8 +28,8 @@ abbrev pub starts_over : Session → Fields → Bool
 starts_over s f = irap f.nal && no_rasl_pics s f
 
 -- Step 2: "MSB 0 for IRAP with NoRaslOutputFlag or no previous Tid0 picture"
-abbrev pub prev_for : Session → Fields → Prev
-prev_for s f = cond (starts_over s f) Prev.Nothing s.prev
+abbrev pub prev_for : Session → Fields → Option Tid0
+prev_for s f = cond (starts_over s f) None s.prev
 
 unfoldable pub msb : Session → Fields → ℤ
 msb s f = msb_of (modulus s.limits) (prev_for s f) f.lsb
@@ -80,7 +80,7 @@ begun_session s f =
       configured = s.configured;
       limits = s.limits;
       store = (room_made s f).pics;
-      current = Now.Is (begun_current s f);
+      current = Some (begun_current s f);
       refs = refs_of (sets s f);
       prev = s.prev;
       at_start = false;

@@ -4,9 +4,6 @@
 use Rattle.std.specs.Prelude.{ℕ, ◌≡◌, List, [], ◌∷◌, ◌++◌, map, Bool, true, false, cond, not, ◌&&◌, ◌||◌, length, eqb}
 use Rattle.paper.specs.declared.Picture.{Picture}
 use Rattle.paper.specs.declared.Current.{Current}
-use Rattle.paper.specs.declared.Found.{Found}
-use Rattle.paper.specs.declared.Found.TheVariants.{Nothing, The}
-use Rattle.paper.specs.declared.Now.TheVariants.{Is}
 use Rattle.paper.specs.declared.Limits.{Limits}
 use Rattle.paper.specs.Words.{keep, all_b}
 use Rattle.paper.specs.Records.{Fields}
@@ -17,6 +14,7 @@ use Rattle.paper.specs.Begin.{marked_store}
 use Rattle.paper.specs.Calls.{raised, stored}
 use Rattle.paper.specs.Step.{session_after}
 use Rattle.paper.specs.Statement.{Bytes}
+use Rattle.std.specs.Prelude.{Option, None, Some}
 
 -- another serial than that of p
 abbrev pub other : Picture → Picture → Bool
@@ -40,15 +38,15 @@ done p q =
     }
 
 -- the tail is the same, the pictures are those of other serials, or all
-abbrev pub taken_by_serial : Bool → List Picture → Found → Moved
-taken_by_serial always ps Nothing = still ps
-taken_by_serial always ps (The p) =
+abbrev pub taken_by_serial : Bool → List Picture → Option Picture → Moved
+taken_by_serial always ps None = still ps
+taken_by_serial always ps (Some p) =
     cond (always || not (is_marked p.mark))
     (record { pics = keep (other p) ps; tail = (leave ps p).tail })
     (record { pics = map (done p) ps; tail = (stay ps p).tail })
 
 unfoldable pub hand_by_serial : Bool → List Picture → Moved
-hand_by_serial always ps = taken_by_serial always ps (lowest Nothing ps)
+hand_by_serial always ps = taken_by_serial always ps (lowest None ps)
 
 -- and all that is made of handing out
 unfoldable pub while_by_serial : (List Picture → Bool) → List Picture → Moved
@@ -75,5 +73,5 @@ pub record BySerial : Type 0 where
   -- in every session reached: the store, the store in which begin's step 5 hands out, and that in which a finish does
   pub reached : (rs : List (List ℕ)) → Bytes rs → apart (session_after fresh rs).store ≡ true
   pub begun : (rs : List (List ℕ)) → Bytes rs → (f : Fields) → apart (marked_store (session_after fresh rs) f) ≡ true
-  pub finished : (rs : List (List ℕ)) → Bytes rs → (c : Current) → (session_after fresh rs).current ≡ Is c
+  pub finished : (rs : List (List ℕ)) → Bytes rs → (c : Current) → (session_after fresh rs).current ≡ Some c
       → apart (map raised (session_after fresh rs).store ++ (stored c ∷ [])) ≡ true

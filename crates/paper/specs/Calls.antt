@@ -3,11 +3,12 @@ use Rattle.std.specs.Prelude.{◌+◌, List, [], ◌∷◌, ◌++◌, map, Bool,
 use Rattle.paper.specs.declared.Mark.TheVariants as Mark
 use Rattle.paper.specs.declared.Picture.{Picture}
 use Rattle.paper.specs.declared.Limits.{Limits}
-use Rattle.paper.specs.declared.Prev.{Prev}
 use Rattle.paper.specs.declared.Current.{Current}
-use Rattle.paper.specs.declared.Now.{Now}
 use Rattle.paper.specs.State.{Session, no_refs, on_now, taken16, count_limit}
 use Rattle.paper.specs.Output.{Tail, Moved, quiet, joined, still, and_then, cleared, emptied, hand_while, due}
+use Rattle.std.specs.Prelude.{Option, None}
+use Rattle.paper.specs.declared.Tid0.{Tid0}
+use Rattle.paper.specs.Poc.{tid0}
 
 -- Finish: "every stored count rises by 1, stopping at 2,147,483,647"
 abbrev pub raised : Picture → Picture
@@ -38,15 +39,15 @@ unfoldable pub finished : Limits → List Picture → Current → Moved
 finished l ps c = hand_while (due false l) (map raised ps ++ (stored c ∷ []))
 
 -- "If valid .. it becomes the previous Tid0 picture."
-abbrev pub prev_after : Prev → Current → Prev
-prev_after q c = cond c.valid (Prev.Tid0 c.lsb c.msb) q
+abbrev pub prev_after : Option Tid0 → Current → Option Tid0
+prev_after q c = cond c.valid (tid0 c.lsb c.msb) q
 
 -- number 9: "the current picture must be stored and stored = capacity"
 abbrev pub full : Session → Bool
 full s = leb (taken16 s.limits).capacity (length s.store)
 
 -- "Drain finishes a current picture, then empties."
-unfoldable pub drained : Limits → List Picture → Now → Moved
+unfoldable pub drained : Limits → List Picture → Option Current → Moved
 drained l ps x = and_then (on_now x (still ps) (finished l ps)) emptied
 
 -- "Discard throws away and releases the current picture first, then clears." "Thrown away are only a current picture
@@ -54,17 +55,17 @@ drained l ps x = and_then (on_now x (still ps) (finished l ps)) emptied
 abbrev pub dropped : Current → Tail
 dropped c = record { handed = []; thrown = cond c.output (c.serial ∷ []) []; released = c.surface ∷ [] }
 
-unfoldable pub discarded : List Picture → Now → Moved
+unfoldable pub discarded : List Picture → Option Current → Moved
 discarded ps x = record { pics = []; tail = joined (on_now x quiet dropped) (cleared ps).tail }
 
 -- The sessions after: with no picture current, these stored and this previous Tid0 picture
-abbrev pub idle_with : Session → List Picture → Prev → Session
+abbrev pub idle_with : Session → List Picture → Option Tid0 → Session
 idle_with s ps q =
     record {
       configured = s.configured;
       limits = s.limits;
       store = ps;
-      current = Now.Idle;
+      current = None;
       refs = no_refs;
       prev = q;
       at_start = s.at_start;
@@ -75,7 +76,7 @@ idle_with s ps q =
 abbrev pub finished_session : Session → Current → Session
 finished_session s c = idle_with s (finished s.limits s.store c).pics (prev_after s.prev c)
 
-abbrev pub prev_now : Session → Prev
+abbrev pub prev_now : Session → Option Tid0
 prev_now s = on_now s.current s.prev (prev_after s.prev)
 
 abbrev pub drained_now : Session → Moved
@@ -91,9 +92,9 @@ configured_session s l =
       configured = true;
       limits = taken16 l;
       store = (drained_now s).pics;
-      current = Now.Idle;
+      current = None;
       refs = no_refs;
-      prev = Prev.Nothing;
+      prev = None;
       at_start = s.at_start;
       ended = s.ended;
       next = s.next;

@@ -3,11 +3,8 @@
 use Rattle.std.specs.Prelude.{ℕ, ◌≡◌, List, [], ◌∷◌, ◌++◌, map, Bool, true, false, cond, not, ◌&&◌, ◌||◌, length, ltb, leb, pos}
 use Rattle.paper.specs.declared.Picture.{Picture}
 use Rattle.paper.specs.declared.Mark.TheVariants.{Unmarked}
-use Rattle.paper.specs.declared.Found.{Found}
-use Rattle.paper.specs.declared.Found.TheVariants.{Nothing, The}
 use Rattle.paper.specs.declared.Limits.{Limits}
 use Rattle.paper.specs.declared.Current.{Current}
-use Rattle.paper.specs.declared.Now.TheVariants.{Is}
 use Rattle.paper.specs.Words.{keep, any_b}
 use Rattle.paper.specs.State.{Session, fresh}
 use Rattle.paper.specs.State.{is_marked}
@@ -15,6 +12,7 @@ use Rattle.paper.specs.Numbers.{a_serial, a_surface}
 use Rattle.paper.specs.Output.{Moved, still, leave, stay, and_then, turns, lowest, emptied, due_late, due_full, hand_while}
 use Rattle.paper.specs.Calls.{raised, stored, finished, drained_now}
 use Rattle.paper.specs.Step.{session_after}
+use Rattle.std.specs.Prelude.{Option, None, Some}
 
 -- "one waits"
 unfoldable pub one_waits : List Picture → Bool
@@ -42,12 +40,12 @@ no_picture =
       count = 0;
     }
 
-abbrev pub as_found : Found → Picture
-as_found Nothing = no_picture
-as_found (The p) = p
+abbrev pub as_found : Option Picture → Picture
+as_found None = no_picture
+as_found (Some p) = p
 
 abbrev pub turn_due : Limits → List Picture → Moved
-turn_due l ps = cond (due_late l ps) (hand_the false ps (as_found (lowest Nothing ps))) (still ps)
+turn_due l ps = cond (due_late l ps) (hand_the false ps (as_found (lowest None ps))) (still ps)
 
 unfoldable pub hand_due : Limits → List Picture → Moved
 hand_due l ps = turns (length ps) (turn_due l) ps
@@ -66,16 +64,16 @@ pub record Item9 : Type 0 where
       → due_over most tested late ps ≡ true → one_waits ps ≡ true
   -- so that the lowest is found
   pub found : (l : Limits) (ps : List Picture) → due_late l ps ≡ true
-      → lowest Nothing ps ≡ The (as_found (lowest Nothing ps))
+      → lowest None ps ≡ Some (as_found (lowest None ps))
   -- "for any session reached from fresh": at every turn of a finish
-  pub reached : (rs : List (List ℕ)) (c : Current) → (session_after fresh rs).current ≡ Is c → (n : ℕ)
+  pub reached : (rs : List (List ℕ)) (c : Current) → (session_after fresh rs).current ≡ Some c → (n : ℕ)
       → due_late (session_after fresh rs).limits (after_turn (session_after fresh rs) c n) ≡ true
       → one_waits (after_turn (session_after fresh rs) c n) ≡ true
   -- those are its turns, as many as are stored; and a drain with a current picture, also that of a configure, is such a
   -- finish, then emptying
   pub finish : (s : Session) (c : Current)
       → finished s.limits s.store c ≡ turns (length (with_stored s c)) (turn_due s.limits) (with_stored s c)
-  pub drain : (s : Session) (c : Current) → s.current ≡ Is c
+  pub drain : (s : Session) (c : Current) → s.current ≡ Some c
       → drained_now s ≡ and_then (finished s.limits s.store c) emptied
   -- "Replies are unchanged": what a finish hands out, and what it leaves, is that of "hand out while one is due and one
   -- waits"; whether the second is asked in so many words or, as the definition had it, where nothing is found

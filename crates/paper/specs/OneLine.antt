@@ -2,9 +2,7 @@
 -- IRAP with NoRaslOutputFlag and has a previous Tid0 picture of POC p: the POC is the only whole number v with
 -- remainder lsb modulo M and −M/2 < v − p ≤ M/2."
 use Rattle.std.specs.Prelude.{ℕ, ◌^◌, ◌≡◌, List, [], ◌∷◌, ◌++◌, Bool, true, false, cond, ◌&&◌, ◌||◌, eqb, ℤ, pos, ◌-ℤ◌}
-use Rattle.std.proofs.Math.Option.{Option, none, some}
-use Rattle.paper.specs.declared.Prev.{Prev}
-use Rattle.paper.specs.declared.Prev.TheVariants.{Nothing, Tid0}
+use Rattle.std.specs.Prelude.{Option, None, Some}
 use Rattle.paper.specs.Words.{any_b}
 use Rattle.paper.specs.Numbers.{u8, u16, i32, bit}
 use Rattle.paper.specs.Kinds.{configure_kind, begin_kind, finish_kind, drain_kind, discard_kind, abandon_kind}
@@ -14,6 +12,8 @@ use Rattle.paper.specs.Nal.{irap}
 use Rattle.paper.specs.Nearest.{TheOnly, Multiple, nearest_to}
 use Rattle.paper.specs.State.{Session, modulus}
 use Rattle.paper.specs.Ledger.{Exchange}
+use Rattle.paper.specs.declared.Tid0.{Tid0}
+use Rattle.paper.specs.Poc.{tid0}
 
 -- WHERE EACH NUMBER IS FOUND, in a record and its reply.
 
@@ -47,7 +47,7 @@ pub record Notes : Type 0 where
   pub previous : Option Exchange
 
 abbrev pub empty : Notes
-empty = record { k = 0; current = none; previous = none }
+empty = record { k = 0; current = None; previous = None }
 
 -- "M = 2^k"
 abbrev pub modulus_in : Notes → ℕ
@@ -55,8 +55,8 @@ modulus_in n = 2 ^ n.k
 
 -- finish: "If valid .. it becomes the previous Tid0 picture."
 unfoldable pub previous_after : Option Exchange → Option Exchange → Option Exchange
-previous_after none p = p
-previous_after (some x) p = cond (valid_in x) (some x) p
+previous_after None p = p
+previous_after (Some x) p = cond (valid_in x) (Some x) p
 
 -- the current picture is finished; it is given up
 abbrev pub finishes : Exchange → Bool
@@ -73,10 +73,10 @@ moves x = accepts begin_kind x || (finishes x || gives_up x)
 -- changes nothing, nor do lists and end of sequence
 unfoldable pub noted : Notes → Exchange → Notes
 noted n x =
-    cond (accepts configure_kind x) (record { k = u8 x.said k_place; current = none; previous = none })
-    (cond (accepts begin_kind x) (record { k = n.k; current = some x; previous = n.previous })
-    (cond (finishes x) (record { k = n.k; current = none; previous = previous_after n.current n.previous })
-    (cond (gives_up x) (record { k = n.k; current = none; previous = n.previous })
+    cond (accepts configure_kind x) (record { k = u8 x.said k_place; current = None; previous = None })
+    (cond (accepts begin_kind x) (record { k = n.k; current = Some x; previous = n.previous })
+    (cond (finishes x) (record { k = n.k; current = None; previous = previous_after n.current n.previous })
+    (cond (gives_up x) (record { k = n.k; current = None; previous = n.previous })
     n)))
 
 unfoldable pub notes : Notes → List Exchange → Notes
@@ -112,8 +112,8 @@ pub record LastFinished (ls : List Exchange) (y : Exchange) : Type 0 where
 
 -- that one, or that there is none
 abbrev pub LastIs : List Exchange → Option Exchange → Type 0
-LastIs ls none = (y : Exchange) (behind : List Exchange) → Finished ls y behind → ⊥
-LastIs ls (some y) = LastFinished ls y
+LastIs ls None = (y : Exchange) (behind : List Exchange) → Finished ls y behind → ⊥
+LastIs ls (Some y) = LastFinished ls y
 
 -- a last accepted configure of xs, and the last valid picture finished since then or none: they are there
 pub record Since (xs : List Exchange) : Type 0 where
@@ -132,7 +132,7 @@ pub record InWordsAt (c x : Exchange) (since : List Exchange) : Type 0 where
   pub near : (y : Exchange) → starts_over_in x ≡ false → LastFinished since y
       → TheOnly (2 ^ u8 c.said k_place) (poc_in y) (lsb_in x) (poc_in x)
   pub over : starts_over_in x ≡ true → poc_in x ≡ pos (lsb_in x)
-  pub first : LastIs since none → poc_in x ≡ pos (lsb_in x)
+  pub first : LastIs since None → poc_in x ≡ pos (lsb_in x)
 
 abbrev pub InWords : List Exchange → Type 0
 InWords xs =
@@ -149,14 +149,14 @@ Covered xs = (bs ls : List Exchange) (x : Exchange) → xs ≡ bs ++ (x ∷ ls) 
 abbrev pub OneLine : List Exchange → Type 0
 OneLine xs =
     (bs ls : List Exchange) (x y : Exchange) → xs ≡ bs ++ (x ∷ ls) → accepts begin_kind x ≡ true
-    → starts_over_in x ≡ false → (notes empty bs).previous ≡ some y
+    → starts_over_in x ≡ false → (notes empty bs).previous ≡ Some y
     → TheOnly (modulus_in (notes empty bs)) (poc_in y) (lsb_in x) (poc_in x)
 
 -- the rule as a program has it: lsb where MSB is 0, for "IRAP with NoRaslOutputFlag or no previous Tid0 picture", else
 -- the number nearest to the previous one's POC
 unfoldable pub poc_after : ℕ → Option Exchange → Exchange → ℤ
-poc_after M none x = pos (lsb_in x)
-poc_after M (some y) x = cond (starts_over_in x) (pos (lsb_in x)) (nearest_to M (poc_in y) (lsb_in x))
+poc_after M None x = pos (lsb_in x)
+poc_after M (Some y) x = cond (starts_over_in x) (pos (lsb_in x)) (nearest_to M (poc_in y) (lsb_in x))
 
 -- every accepted begin's POC is what it gives
 abbrev pub Computed : List Exchange → Type 0
@@ -167,13 +167,13 @@ Computed xs =
 -- "the previous MSB is always a multiple of M, also after configure, drain, discard and abandon": behind any of them
 abbrev pub MsbMultiple : List Exchange → Type 0
 MsbMultiple xs =
-    (bs ls : List Exchange) (y : Exchange) → xs ≡ bs ++ ls → (notes empty bs).previous ≡ some y
+    (bs ls : List Exchange) (y : Exchange) → xs ≡ bs ++ ls → (notes empty bs).previous ≡ Some y
     → Multiple (modulus_in (notes empty bs)) (msb_in y)
 
 -- the previous Tid0 picture as a session has it: its lsb and MSB
-abbrev pub prev_in : Option Exchange → Prev
-prev_in none = Nothing
-prev_in (some y) = Tid0 (lsb_in y) (msb_in y)
+abbrev pub prev_in : Option Exchange → Option Tid0
+prev_in None = None
+prev_in (Some y) = tid0 (lsb_in y) (msb_in y)
 
 -- POC IN ONE LINE as one statement, of some exchanges and the session behind them
 pub record Item12 (xs : List Exchange) (s : Session) : Type 0 where

@@ -5,12 +5,11 @@ use Rattle.paper.specs.declared.Serial.{Serial}
 use Rattle.paper.specs.declared.Surface.{Surface}
 use Rattle.paper.specs.declared.Picture.{Picture}
 use Rattle.paper.specs.declared.Shown.{Shown}
-use Rattle.paper.specs.declared.Found.{Found}
-use Rattle.paper.specs.declared.Found.TheVariants.{Nothing, The}
 use Rattle.paper.specs.declared.Limits.{Limits}
 use Rattle.paper.specs.Words.{keep, any_b, drop_first, change_first}
 use Rattle.paper.specs.State.{is_marked}
 use Rattle.paper.specs.Poc.{eq_z}
+use Rattle.std.specs.Prelude.{Option, None, Some}
 
 -- "A tail is: .. each picture handed out; .. serials thrown away; .. surfaces released. Each part is in the order it
 -- happened"
@@ -48,13 +47,13 @@ turns zero f ps = still ps
 turns (suc n) f ps = and_then (f ps) (turns n f)
 
 -- "Handing out takes the lowest waiting POC, earlier stored first on a tie"
-abbrev pub below : Picture → Found → Bool
-below p Nothing = true
-below p (The q) = lt_z p.poc q.poc
+abbrev pub below : Picture → Option Picture → Bool
+below p None = true
+below p (Some q) = lt_z p.poc q.poc
 
-unfoldable pub lowest : Found → List Picture → Found
+unfoldable pub lowest : Option Picture → List Picture → Option Picture
 lowest b [] = b
-lowest b (p ∷ ps) = lowest (cond (p.waiting && below p b) (The p) b) ps
+lowest b (p ∷ ps) = lowest (cond (p.waiting && below p b) (Some p) b) ps
 
 -- it, the picture p that is found: the first that waits with its POC
 abbrev pub is_it : Picture → Picture → Bool
@@ -91,12 +90,12 @@ leave ps p =
     }
 
 -- `always`: "each leaving even if marked". Where none waits, nothing happens.
-abbrev pub hand_found : Bool → List Picture → Found → Moved
-hand_found always ps Nothing = still ps
-hand_found always ps (The p) = cond (always || not (is_marked p.mark)) (leave ps p) (stay ps p)
+abbrev pub hand_found : Bool → List Picture → Option Picture → Moved
+hand_found always ps None = still ps
+hand_found always ps (Some p) = cond (always || not (is_marked p.mark)) (leave ps p) (stay ps p)
 
 unfoldable pub hand_out : Bool → List Picture → Moved
-hand_out always ps = hand_found always ps (lowest Nothing ps)
+hand_out always ps = hand_found always ps (lowest None ps)
 
 -- clearing: "those waiting are thrown away"; "a clearing or removal goes in store order"
 unfoldable pub cleared : List Picture → Moved

@@ -5,10 +5,10 @@ use Rattle.paper.specs.declared.Mark.{Mark}
 use Rattle.paper.specs.declared.Mark.TheVariants.{Unmarked, ShortTerm, LongTerm}
 use Rattle.paper.specs.declared.Picture.{Picture}
 use Rattle.paper.specs.declared.Limits.{Limits}
-use Rattle.paper.specs.declared.Prev.{Prev}
 use Rattle.paper.specs.declared.Current.{Current}
-use Rattle.paper.specs.declared.Now.{Now}
 use Rattle.paper.specs.Numbers.{capacity_limit}
+use Rattle.std.specs.Prelude.{Option, None, Some}
+use Rattle.paper.specs.declared.Tid0.{Tid0}
 
 -- the sets of the current picture that its lists draw on: StCurrBefore, StCurrAfter, LtCurr
 pub record Refs : Type 0 where
@@ -27,9 +27,9 @@ pub record Session : Type 0 where
   pub configured : Bool
   pub limits : Limits
   pub store : List Picture
-  pub current : Now
+  pub current : Option Current
   pub refs : Refs
-  pub prev : Prev
+  pub prev : Option Tid0
   pub at_start : Bool
   pub ended : Bool
   pub next : ℕ
@@ -43,9 +43,9 @@ fresh =
       configured = false;
       limits = no_limits;
       store = [];
-      current = Now.Idle;
+      current = None;
       refs = no_refs;
-      prev = Prev.Nothing;
+      prev = None;
       at_start = true;
       ended = false;
       next = 0;
@@ -61,14 +61,14 @@ is_short_term Unmarked = false
 is_short_term ShortTerm = true
 is_short_term LongTerm = false
 
-abbrev pub is_current : Now → Bool
-is_current Now.Idle = false
-is_current (Now.Is c) = true
+abbrev pub is_current : Option Current → Bool
+is_current None = false
+is_current (Some c) = true
 
 -- one thing where none is current, another of the current picture
-abbrev pub on_now : {A : Type 0} → Now → A → (Current → A) → A
-on_now Now.Idle x g = x
-on_now (Now.Is c) x g = g c
+abbrev pub on_now : {A : Type 0} → Option Current → A → (Current → A) → A
+on_now None x g = x
+on_now (Some c) x g = g c
 
 -- The normal form. Every definition takes any session value, also one that no record reaches: a k or a capacity over 16
 -- is taken as 16, and a count past 2,147,483,647 as that. A session reached from fresh is its own normal form.

@@ -1,7 +1,7 @@
 -- Any two results that the contract of `step` permits are equal: a caller need not ask which code answered. Answer,
--- buffer and pool always; the pool's three words where each has 64 bits; and, from memory in its normal form, the
+-- buffer and pool always, and so the pool's three words; and, from memory in its normal form, the
 -- session's words, as the session's own theorem says. Assumes nothing.
-use Prim.Native.Nat.{ℕ, zero, suc, ◌^◌, ◌<◌}
+use Prim.Native.Nat.{ℕ, zero, suc, ◌<◌}
 use mathlib.Core.Path.{◌≡◌, refl, sym, ap, ◌∙◌}
 use mathlib.Core.List.{List}
 use mathlib.Core.Bool.{Bool, true, false, cond}
@@ -18,11 +18,6 @@ use Rattle.pool.specs.Calls.{pool_step}
 use Rattle.pool.specs.Memory.{PoolMemory, pool_in, HELD, PENDING}
 use Rattle.pool.specs.Said.{Permitted}
 use Rattle.pool.proofs.Bits.{bits_same}
-
--- three words of 64 bits
-pub record Words (ws : List ℕ) : Type 0 where
-  pub three : length ws ≡ 3
-  pub wide : (i : ℕ) → word ws i < 2 ^ 64
 
 flags_same : (a b : Bool) → ◌≡◌ {A = ℕ} (cond a 1 0) (cond b 1 0) → a ≡ b
 flags_same true true e = refl
@@ -44,12 +39,12 @@ module _ {m : PoolMemory} {r before : List ℕ} {a b : goal.Given} {m1 m2 : Pool
   one_step = (p.answer ∙ sym q.answer, p.bytes ∙ sym q.bytes, p.next ∙ sym q.next)
 
   -- in every word of the pool
-  pub one_step_words : Words m1.words → Words m2.words → m1.words ≡ m2.words
+  pub one_step_words : length m1.words ≡ 3 → length m2.words ≡ 3 → m1.words ≡ m2.words
   one_step_words f g =
       let e = p.next ∙ sym q.next in
-      three_same m1.words m2.words f.three g.three (p.surfaces ∙ sym q.surfaces)
-      (bits_same 64 (word m1.words HELD) (word m2.words HELD) (f.wide HELD) (g.wide HELD) (λ i. ap (λ (v : Pool). v.held i) e))
-      (bits_same 64 (word m1.words PENDING) (word m2.words PENDING) (f.wide PENDING) (g.wide PENDING) (λ i. flags_same (bit i (word m1.words PENDING)) (bit i (word m2.words PENDING)) (ap (λ (v : Pool). v.pending i) e)))
+      three_same m1.words m2.words f g (p.surfaces ∙ sym q.surfaces)
+      (bits_same (word m1.words HELD) (word m2.words HELD) (λ i. ap (λ (v : Pool). v.held i) e))
+      (bits_same (word m1.words PENDING) (word m2.words PENDING) (λ i. flags_same (bit i (word m1.words PENDING)) (bit i (word m2.words PENDING)) (ap (λ (v : Pool). v.pending i) e)))
 
   -- and of its session
   pub one_step_memory : NormalMemory m.memory

@@ -15,13 +15,14 @@ use Rattle.paper.proofs.Bools.{both, left, right}
 use Rattle.session.specs.View.{Memory}
 use Rattle.session.proofs.Entries.{all_both}
 use Rattle.pool.specs.declared.Given as goal
-use Rattle.pool.specs.Pool.{Pool, can_make, made, no_surface}
+use Rattle.pool.specs.Pool.{Pool, can_make, made, no_surface, number_at}
 use Rattle.pool.specs.Calls.{pool_step}
 use Rattle.pool.specs.History.{Call, Lends, Returns, Heard, BytesIn, answer_to, after, heard_from, after_all}
 use Rattle.pool.specs.Statement.{Promises, Item10}
 use Rattle.pool.specs.Memory.{PoolMemory, pool_in, pool_memory, at_most_one}
 use Rattle.pool.specs.Sequence.{Called, Stepped, Gave, Did, One, Run, call_of, heard_of, calls_of, heard_in, Follows}
 use Rattle.pool.proofs.Reached.{AlwaysReached}
+use Rattle.pool.proofs.StepLaws.{number_surface}
 use Rattle.pool.proofs.Parts.{heard_one, after_append}
 
 -- a pool on whose surfaces at most one return is pending is what a memory can hold
@@ -42,8 +43,9 @@ told_one m (Stepped r before a left_After) m' d =
     let g = pool_step (pool_in m) r (length before) in
     let many = ap (λ (b : goal.Given). take b.len left_After) d.answer in
     let bytes : take a.len left_After ≡ g.bytes = many ∙ ap (take (length g.bytes)) d.bytes ∙ take-append_seam g.bytes (drop (length g.bytes) before) in
+    let told : number_at a.surface ≡ g.surface = ap (λ (b : goal.Given). number_at b.surface) d.answer ∙ number_surface g.surface in
     record {
-      heard = λ i. record { call = Lends r (length before); answer = record { number = (d.answer i).number; bytes = bytes i; surface = (d.answer i).surface } };
+      heard = λ i. record { call = Lends r (length before); answer = record { number = (d.answer i).number; bytes = bytes i; surface = told i } };
       next = λ q. d.next ∙ few_pending g.next q;
     }
 told_one m (Gave x number) m' d =

@@ -20,3 +20,4 @@ pub mod GivenAgain
 pub mod Following
 pub mod Item10
 pub mod OneLine
+pub mod Refused

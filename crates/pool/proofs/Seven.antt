@@ -8,7 +8,6 @@ use native.Mathlib.Omega.{arith}
 use lib.Dec.{ltb, eqb}
 use borrow.Author.Tests.{ltb-true, not-true}
 use Rattle.paper.specs.declared.Current.{Current}
-use Rattle.paper.specs.declared.Now.{Now}
 use Rattle.paper.specs.Words.{Test, ◌gives◌, first, any_b}
 use Rattle.paper.specs.Numbers.{u32, a_surface}
 use Rattle.paper.specs.Kinds.{configure_kind, begin_kind, lists_kind, finish_kind, drain_kind, discard_kind, end_kind, abandon_kind, reply_to, surface_place}
@@ -28,6 +27,7 @@ use Rattle.pool.specs.Statement.{Agrees}
 use Rattle.session.proofs.Targets.{with_surface_lem}
 use Rattle.pool.proofs.Lowest.{free_found}
 use Rattle.pool.proofs.Answers.{by_step}
+use Rattle.std.proofs.Common.{Option, None, Some}
 
 -- ---- what is decided
 
@@ -64,9 +64,9 @@ module _ (s : Session) (r : List ℕ) where
   unfolding lists_of lists_refusal
   seven_lists = go s.current
     where
-      go : (x : Now) → NotSeven (on_now x (refused s (reply_to lists_kind) 4) (lists_at s (slice_of r)))
-      go Now.Idle = record { not_seven = λ e. omega (arith, e) }
-      go (Now.Is c) =
+      go : (x : Option Current) → NotSeven (on_now x (refused s (reply_to lists_kind) 4) (lists_at s (slice_of r)))
+      go None = record { not_seven = λ e. omega (arith, e) }
+      go (Some c) =
           or_seven s 3 _ _
           (first_else _
           (λ e _. omega (arith, e), (λ e _. omega (arith, e), (λ e _. omega (arith, e), (λ e _. omega (arith, e), (λ e _. omega (arith, e), (λ e _. omega (arith, e), tt))))))) refl
@@ -75,9 +75,9 @@ module _ (s : Session) (r : List ℕ) where
   unfolding finish_of
   seven_finish = go s.current
     where
-      go : (x : Now) → NotSeven (on_now x (refused s (reply_to finish_kind) 4) (finish_at s))
-      go Now.Idle = record { not_seven = λ e. omega (arith, e) }
-      go (Now.Is c) = or_seven s 4 (first (full s gives 9 ∷ [])) _ (first_else (full s gives 9 ∷ []) (λ e _. omega (arith, e), tt)) refl
+      go : (x : Option Current) → NotSeven (on_now x (refused s (reply_to finish_kind) 4) (finish_at s))
+      go None = record { not_seven = λ e. omega (arith, e) }
+      go (Some c) = or_seven s 4 (first (full s gives 9 ∷ [])) _ (first_else (full s gives 9 ∷ []) (λ e _. omega (arith, e), tt)) refl
 
   seven_drain : NotSeven (drain_of s)
   unfolding drain_of
@@ -88,9 +88,9 @@ module _ (s : Session) (r : List ℕ) where
   unfolding abandon_of
   seven_abandon = go s.current
     where
-      go : (x : Now) → NotSeven (on_now x (refused s (reply_to abandon_kind) 4) (λ (c : Current). accepted (abandoned_session s) abandon_kind (dropped c)))
-      go Now.Idle = record { not_seven = λ e. omega (arith, e) }
-      go (Now.Is c) = record { not_seven = λ e. omega (arith, e) }
+      go : (x : Option Current) → NotSeven (on_now x (refused s (reply_to abandon_kind) 4) (λ (c : Current). accepted (abandoned_session s) abandon_kind (dropped c)))
+      go None = record { not_seven = λ e. omega (arith, e) }
+      go (Some c) = record { not_seven = λ e. omega (arith, e) }
 
   decided : (is_begin r ≡ true → any_b (held_by (fields_of r).surface) s.store ≡ false) → NotSeven (decide_of s r)
   unfolding decide_of by_kind discard_of end_of

@@ -20,21 +20,23 @@ use Rattle.paper.specs.Reading.{opening}
 use Rattle.paper.specs.Ledger.{read_reply}
 use Rattle.paper.specs.Accounts.{tail_in}
 use Rattle.paper.specs.Step.{Result, decide_of, step_of}
-use Rattle.paper.proofs.Bools.{split, not_both, left, right}
-use Rattle.format.specs.Reads.{kind_in}
+use Rattle.paper.proofs.Bools.{split, not_both, right}
 use Rattle.store.specs.StoreWords.{word}
 use Rattle.session.specs.declared.Answer.{Answer}
 use Rattle.session.specs.View.{Memory, session_in}
 use Rattle.session.specs.Laid.{NormalMemory}
 use Rattle.session.specs.Said.{Declines}
 use Rattle.session.specs.Said as S
-use Rattle.session.specs.Target.{is_begin, with_surface}
+use Rattle.session.specs.Target.{is_begin, with_surface, taken_as}
+use Rattle.std.specs.Prelude.{Option, None, Some, is_none, Ok, Err}
+use Rattle.paper.specs.declared.Surface.{Surface}
 use Rattle.pool.specs.declared.Given as goal
-use Rattle.pool.specs.Pool.{Pool, no_surface, lowest_free}
+use Rattle.pool.specs.Pool.{Pool, no_surface, surface_at, number_at, lowest_free}
 use Rattle.pool.specs.Calls.{Given, told, declined, passed, accounted, begin_on, pool_step}
 use Rattle.pool.specs.Memory.{PoolMemory, pool_memory, pool_in, at_most_one, SURFACES}
 use Rattle.pool.specs.Marks.{Told}
-use Rattle.pool.specs.Said.{Permitted}
+use Rattle.pool.specs.declared.Refusal.TheVariants.{NoneFree}
+use Rattle.pool.specs.Said.{TakenWith, Permitted}
 use Rattle.pool.proofs.MarkLaws.{pool_told, pool_left}
 
 -- ---- a reply lies in its buffer
@@ -52,15 +54,6 @@ module _ {m : Memory} {r before : List ℕ} {a : Answer} {m' : Memory} {after : 
   reply_taken = let f = reply_fits in simp length-take (omega arith)
 
 -- ---- which call it is
-
--- the kind that is read says whether it is a well-formed begin
-pub begin_is : (r : List ℕ) → eqb (kind_in r) begin_kind ≡ is_begin r
-unfolding kind_in
-begin_is r = go (well_formed r) (kind_of r)
-  where
-    go : (b : Bool) (k : ℕ) → eqb (cond b k 0) 2 ≡ (b && eqb k 2)
-    go true k = refl
-    go false k = refl
 
 same_record : (x : ℕ) (r : List ℕ) → is_begin r ≡ false → with_surface x r ≡ r
 unfolding with_surface
@@ -100,12 +93,46 @@ module _ (p : Pool) (r : List ℕ) (room : ℕ) where
       (λ b. rw (b, ← (e b)) (on_it x (n b)))
       (λ b. rw (same_record x r b, b))
 
--- of three that do not all hold, where two do the third does not
-both_not : (a b c : Bool) → a ≡ true → c ≡ true → ((a && b) && c) ≡ false → b ≡ false
-both_not true true true p q n = n
-both_not true true false p q n = not_both false q refl
-both_not true false c p q n = refl
-both_not false b c p q n = not_both false p refl
+-- ---- a surface and its number
+
+none_at : (x : ℕ) → is_none (surface_at x) ≡ eqb x no_surface
+none_at x = split (eqb x 64) (λ e. rw e) (λ e. rw e)
+
+pub number_surface : (x : ℕ) → number_at (surface_at x) ≡ x
+number_surface x = split (eqb x 64) (λ e. let q = eqb-true x 64 e in rw e (sym q)) (λ e. rw e)
+
+-- the surface o that a record is taken with, by its number
+module _ (p : Pool) (r : List ℕ) (o : Option Surface) (k : TakenWith p r (Ok o)) where
+  its_number : number_at o ≡ cond (eqb (kind_of r) begin_kind) (lowest_free p) no_surface
+  its_number = ap number_at k.0 ∙ split (eqb (kind_of r) begin_kind) (λ e. rw e (number_surface (lowest_free p))) (λ e. rw e)
+
+  pub its_surface : surface_at (number_at o) ≡ o
+  its_surface = rw k.0 (split (eqb (kind_of r) begin_kind) (λ e. rw (e, number_surface (lowest_free p))) (λ e. rw e))
+
+  pub its_target : taken_as o r ≡ with_surface (number_at o) r
+  its_target = go o k.1
+    where
+      go : (q : Option Surface) → (is_none q && is_begin r) ≡ false → taken_as q r ≡ with_surface (number_at q) r
+      go None n = sym (same_record no_surface r n)
+      go (Some x) n = refl
+
+  -- of a begin, and of a record of another kind
+  module _ (b : is_begin r ≡ true) where
+    pub lowest_is : number_at o ≡ lowest_free p
+    lowest_is = rw (right (well_formed r) (eqb (kind_of r) begin_kind) b) at its_number
+
+    pub is_one : eqb (number_at o) no_surface ≡ false
+    is_one = ap (λ (x : ℕ). eqb x no_surface) lowest_is ∙ (sym (none_at (lowest_free p)) ∙ (ap is_none (sym taken) ∙ some o k.1))
+      where
+        taken : o ≡ surface_at (lowest_free p)
+        taken = rw (right (well_formed r) (eqb (kind_of r) begin_kind) b) at k.0
+
+        some : (q : Option Surface) → (is_none q && is_begin r) ≡ false → is_none q ≡ false
+        some None n = not_both (is_begin r) b n
+        some (Some x) n = refl
+
+  pub other_is : eqb (kind_of r) begin_kind ≡ false → number_at o ≡ no_surface
+  other_is e = rw e at its_number
 
 -- ---- the contract, by what the definitions say of the call
 
@@ -114,7 +141,7 @@ module _ (m : PoolMemory) (r before : List ℕ) where
   outcome = pool_step (pool_in m) r (length before)
 
   abbrev saying : Given → goal.Given
-  saying g = record { number = g.number; len = length g.bytes; surface = g.surface }
+  saying g = record { number = g.number; len = length g.bytes; surface = surface_at g.surface }
 
   permits : (g : Given) → outcome ≡ g → (a : goal.Given) (m' : PoolMemory) (after : List ℕ) → a ≡ saying g → after ≡ over g.bytes before → pool_in m' ≡ at_most_one g.next
       → ((a.number ≡ 0 → ⊥) → m' ≡ m) → word m'.words SURFACES ≡ word m.words SURFACES → (NormalMemory m.memory → NormalMemory m'.memory)
@@ -131,7 +158,7 @@ module _ (m : PoolMemory) (r before : List ℕ) where
       }
 
   -- a refusal, which leaves every word
-  permits_left : (k : ℕ) (bs : List ℕ) → outcome ≡ declined (pool_in m) k bs → (a : goal.Given) (m' : PoolMemory) (after : List ℕ) → a ≡ record { number = k; len = length bs; surface = no_surface }
+  permits_left : (k : ℕ) (bs : List ℕ) → outcome ≡ declined (pool_in m) k bs → (a : goal.Given) (m' : PoolMemory) (after : List ℕ) → a ≡ record { number = k; len = length bs; surface = None }
       → after ≡ over bs before → m' ≡ m → Permitted m r before a m' after
   permits_left k bs e a m' after p q l =
       permits (declined (pool_in m) k bs) e a m' after p q (ap pool_in l ∙ pool_left m) (λ _. l)
@@ -142,60 +169,54 @@ module _ (m : PoolMemory) (r before : List ℕ) where
   -- ---- the three ways out
 
   -- with a surface beside it
-  abbrev answered : ℕ → Answer → goal.Given
+  abbrev answered : Option Surface → Answer → goal.Given
   answered x a = record { number = a.number; len = a.len; surface = x }
 
   nothing_over : over [] before ≡ before
   unfolding over
   nothing_over = refl
 
-  refuses_begin : (a : Answer) (after : List ℕ) → is_begin r ≡ true → lowest_free (pool_in m) ≡ no_surface → Declines (reply_to begin_kind) 18 before a after
-      → Permitted m r before (answered no_surface a) m after
+  pub refuses_begin : (a : Answer) (after : List ℕ) → TakenWith (pool_in m) r (Err NoneFree) → Declines (reply_to begin_kind) 18 before a after
+      → Permitted m r before (answered None a) m after
   unfolding bytes_of
-  refuses_begin a after b e d =
+  refuses_begin a after k d =
+      let b = k.1.1 in
+      let e = eqb-true (lowest_free (pool_in m)) no_surface (sym (none_at (lowest_free (pool_in m))) ∙ ap is_none k.1.0) in
       split (ltb (length before) reply_limit)
       (λ t.
       let s = d.small (ltb-true (length before) reply_limit t) in
       permits_left 14 [] (none_free (pool_in m) r (length before) b e ∙ ap (λ (c : Bool). cond c (declined (pool_in m) 14 []) (declined (pool_in m) 18 (bytes_of (Reply.Refused (reply_to begin_kind) 18)))) t)
-      (answered no_surface a) m after (ap (answered no_surface) s.0) (s.1 ∙ sym nothing_over) refl)
+      (answered None a) m after (ap (answered None) s.0) (s.1 ∙ sym nothing_over) refl)
       (λ t.
       let s = d.refuses (ltb-false (length before) reply_limit t) in
       permits_left 18 (bytes_of (Reply.Refused (reply_to begin_kind) 18)) (none_free (pool_in m) r (length before) b e ∙ ap (λ (c : Bool). cond c (declined (pool_in m) 14 []) (declined (pool_in m) 18 (bytes_of (Reply.Refused (reply_to begin_kind) 18)))) t)
-      (answered no_surface a) m after (ap (answered no_surface) s.answer) s.bytes refl)
+      (answered None a) m after (ap (answered None) s.answer) s.bytes refl)
 
-  pub refuses_left : (x : ℕ) → x ≡ cond (eqb (kind_of r) begin_kind) (lowest_free (pool_in m)) no_surface → ((eqb (kind_of r) begin_kind && eqb x no_surface) && is_begin r) ≡ true
-      → (a : Answer) (after : List ℕ) → Declines (reply_to begin_kind) 18 before a after → Permitted m r before (answered no_surface a) m after
-  refuses_left x kind t a after d =
-      let both = left (eqb (kind_of r) begin_kind && eqb x no_surface) (is_begin r) t in
-      let none = eqb-true x no_surface (right (eqb (kind_of r) begin_kind) (eqb x no_surface) both) in
-      let lowest : x ≡ lowest_free (pool_in m) = rw (left (eqb (kind_of r) begin_kind) (eqb x no_surface) both) at kind in
-      refuses_begin a after (right (eqb (kind_of r) begin_kind && eqb x no_surface) (is_begin r) t) (sym lowest ∙ none) d
+  -- x is what a record of its kind is taken with, by its number
+  module _ (o : Option Surface) (k : TakenWith (pool_in m) r (Ok o)) (a : Answer) (m' : Memory) (after : List ℕ)
+      (took : S.Permitted m.memory (taken_as o r) before a m' after) where
+    abbrev x : ℕ
+    x = number_at o
 
-  -- x is what a record of its kind is taken with, and where it is a begin it is a surface
-  module _ (x : ℕ) (kind : x ≡ cond (eqb (kind_of r) begin_kind) (lowest_free (pool_in m)) no_surface) (n : ((eqb (kind_of r) begin_kind && eqb x no_surface) && is_begin r) ≡ false) (a : Answer) (m' : Memory) (after : List ℕ)
-      (h : S.Permitted m.memory (with_surface x r) before a m' after) where
+    h : S.Permitted m.memory (with_surface x r) before a m' after
+    h = subst (λ (y : List ℕ). S.Permitted m.memory y before a m' after) (its_target (pool_in m) r o k) took
+
     abbrev decided : Result
     decided = step_of (session_in m.memory) (with_surface x r) (length before)
 
     number_is : a.number ≡ decided.number
     number_is = ap (λ (v : Answer). v.number) h.answer
 
-    lowest_is : is_begin r ≡ true → x ≡ lowest_free (pool_in m)
-    lowest_is b = rw (right (well_formed r) (eqb (kind_of r) begin_kind) b) at kind
-
-    is_one : is_begin r ≡ true → eqb x no_surface ≡ false
-    is_one b = both_not (eqb (kind_of r) begin_kind) (eqb x no_surface) (is_begin r) (right (well_formed r) (eqb (kind_of r) begin_kind) b) b n
-
     passes_it : outcome ≡ passed (pool_in m) (cond (is_begin r) x no_surface) decided
-    passes_it = passes (pool_in m) r (length before) x lowest_is is_one
+    passes_it = passes (pool_in m) r (length before) x (lowest_is (pool_in m) r o k) (is_one (pool_in m) r o k)
 
-    pub refuses : (a.number ≡ 0 → ⊥) → Permitted m r before (answered no_surface a) (pool_memory m.words m') after
-    refuses k =
-        let z : eqb decided.number 0 ≡ false = ne_eqb decided.number 0 (λ q. k (number_is ∙ q)) in
+    pub refuses : (a.number ≡ 0 → ⊥) → Permitted m r before (answered None a) (pool_memory m.words m') after
+    refuses n =
+        let z : eqb decided.number 0 ≡ false = ne_eqb decided.number 0 (λ q. n (number_is ∙ q)) in
         let y = cond (is_begin r) x no_surface in
         permits_left decided.number decided.bytes
         (passes_it ∙ ap (λ (c : Bool). cond c (record { number = 0; bytes = decided.bytes; surface = y; next = accounted (pool_in m) decided.next y decided.bytes }) (declined (pool_in m) decided.number decided.bytes)) z)
-        (answered no_surface a) (pool_memory m.words m') after (ap (answered no_surface) h.answer) h.bytes (ap (pool_memory m.words) (h.left k))
+        (answered None a) (pool_memory m.words m') after (ap (answered None) h.answer) h.bytes (ap (pool_memory m.words) (h.left n))
 
     -- the reply is as much of the buffer as the answer says
     pub reply_is : take a.len after ≡ decided.bytes
@@ -204,24 +225,24 @@ module _ (m : PoolMemory) (r before : List ℕ) where
 
     -- what is accepted and no begin has another kind, and so no surface
     given_is : a.number ≡ 0 → x ≡ cond (is_begin r) x no_surface
-    given_is k =
+    given_is e =
         split (is_begin r)
         (λ b. rw b)
         (λ b.
-        let q : (step_of (session_in m.memory) r (length before)).number ≡ 0 = ap (λ (y : List ℕ). (step_of (session_in m.memory) y (length before)).number) (sym (same_record x r b)) ∙ sym number_is ∙ k in
+        let q : (step_of (session_in m.memory) r (length before)).number ≡ 0 = ap (λ (y : List ℕ). (step_of (session_in m.memory) y (length before)).number) (sym (same_record x r b)) ∙ sym number_is ∙ e in
         let other : eqb (kind_of r) begin_kind ≡ false = ap (λ (f : Bool). f && eqb (kind_of r) begin_kind) (sym (accepted_formed (session_in m.memory) r (length before) q)) ∙ b in
-        rw b (rw other at kind))
+        rw b (other_is (pool_in m) r o k other))
 
     pub accepts : (ws : List ℕ) → a.number ≡ 0 → Told m.words x (tail_in (read_reply opening (take a.len after))) ws
-        → Permitted m r before (record { number = 0; len = a.len; surface = x }) (pool_memory ws m') after
+        → Permitted m r before (record { number = 0; len = a.len; surface = o }) (pool_memory ws m') after
     unfolding told
-    accepts ws k t =
-        let z : eqb decided.number 0 ≡ true = eq-eqb decided.number 0 (sym number_is ∙ k) in
+    accepts ws n t =
+        let z : eqb decided.number 0 ≡ true = eq-eqb decided.number 0 (sym number_is ∙ n) in
         let f : Told m.words x (tail_in (read_reply opening decided.bytes)) ws = subst (λ (bs : List ℕ). Told m.words x (tail_in (read_reply opening bs)) ws) reply_is t in
         let g : Given = record { number = 0; bytes = decided.bytes; surface = x; next = accounted (pool_in m) decided.next x decided.bytes } in
-        let e : outcome ≡ passed (pool_in m) x decided = passes_it ∙ ap (λ (y : ℕ). passed (pool_in m) y decided) (sym (given_is k)) in
+        let e : outcome ≡ passed (pool_in m) x decided = passes_it ∙ ap (λ (y : ℕ). passed (pool_in m) y decided) (sym (given_is n)) in
         permits g (e ∙ ap (λ (c : Bool). cond c g (declined (pool_in m) decided.number decided.bytes)) z)
-        (record { number = 0; len = a.len; surface = x }) (pool_memory ws m') after
-        (ap (λ (v : Answer). record { number = 0; len = v.len; surface = x }) h.answer) h.bytes
+        (record { number = 0; len = a.len; surface = o }) (pool_memory ws m') after
+        (rw (its_surface (pool_in m) r o k) (ap (λ (v : Answer). record { number = 0; len = v.len; surface = o }) h.answer)) h.bytes
         (pool_told m.words ws m.memory m' decided.next x (tail_in (read_reply opening decided.bytes)) decided.bytes f h.next)
         (λ q. absurd (q refl)) f.surfaces h.normal h.sets

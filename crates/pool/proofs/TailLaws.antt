@@ -1,16 +1,20 @@
--- A tail read place by place leaves the marks that the definitions tell: each surface that stands there sets or clears
--- one bit, and all of them those that the tail names. Assumes nothing.
-use Prim.Native.Nat.{ℕ, suc, ◌+◌, ◌-◌, ◌≤◌, ◌<◌}
+-- A tail read place by place tells the surfaces that the definitions tell: each that stands there is one bit, and all of
+-- them those that the tail names. Assumes nothing.
+use Prim.Native.Nat.{ℕ, zero, suc, ◌+◌, ◌*◌}
 use mathlib.Core.Path.{◌≡◌, refl, sym, ap, ◌∙◌}
-use mathlib.Core.List.{List, [], ◌∷◌, map}
+use mathlib.Core.List.{List, [], ◌∷◌, ◌++◌, map}
 use mathlib.Core.Bool.{Bool, true, false, not, ◌&&◌, ◌||◌}
 use native.Mathlib.Omega.{arith}
-use lib.ListN.{drop}
+use native.Mathlib.Nat.{zero-add}
+use lib.ListN.{length, set, drop, length-set}
+use Rattle.std.proofs.lemmas.List.{get_or-set_same, get_or-set_other}
+use lib.Bits.{bit_or}
+use Rattle.std.specs.List.{range_with_len}
+use Rattle.std.proofs.lemmas.List.FromFn.{map-range_with_len_more}
 use lib.Seq.{drop-drop}
 use lib.Dec.{eqb}
 use borrow.Author.Tests.{eqb-true, eqb-false}
 use Rattle.paper.specs.declared.Surface.{Surface}
-use Rattle.paper.specs.declared.Shown.{Shown}
 use Rattle.paper.specs.declared.Reading.{Reading}
 use Rattle.paper.specs.Numbers.{u8, u16, u32, bit, a_surface}
 use Rattle.paper.specs.Kinds.{lists_kind, reply_to, number_place, word_width}
@@ -24,102 +28,93 @@ use Rattle.paper.proofs.Bools.{split, not_both}
 use Rattle.format.proofs.Tails.{u32_drop, words_more, handed_is, released_is, tail_refused, tail_listed, tail_read}
 use Rattle.store.specs.StoreWords.{word}
 use Rattle.pool.specs.Calls.{shown_on}
-use Rattle.pool.specs.Memory.{HELD, PENDING}
-use Rattle.pool.specs.Marks.{surfaces_of, is_of, With, Without, WithAll, WithoutAll, hit, Told, Puts}
-use Rattle.pool.proofs.MarkLaws.{or_false, and_true, hit_none, hit_more}
+use Rattle.pool.specs.Memory.{SURFACES, HELD, PENDING}
+use Rattle.pool.proofs.Bits.{bit_or_lem, bit_zero}
+use Rattle.pool.specs.declared.tails.Tail as Code
+use Rattle.pool.specs.Marks.{surfaces_of, is_of, surfaces_in, BitsOf, hit, Tells, Told}
+use Rattle.pool.proofs.MarkLaws.{or_false, hit_none, hit_more}
 
--- ---- one surface more
+-- ---- the surfaces that stand in a reply
 
-or_more : (a b c : Bool) → ((a || b) || c) ≡ (a || (b || c))
-or_more true b c = refl
-or_more false b c = refl
+hit_append : (n i : ℕ) (xs : List Surface) (x : Surface) → hit n (xs ++ (x ∷ [])) i ≡ (hit n xs i || is_of n x.0 i)
+hit_append n i [] x = hit_more n i x [] ∙ ap (λ (b : Bool). is_of n x.0 i || b) (hit_none n i) ∙ or_false (is_of n x.0 i) ∙ sym (ap (λ (b : Bool). b || is_of n x.0 i) (hit_none n i))
+hit_append n i (y ∷ xs) x =
+    hit_more n i y (xs ++ (x ∷ [])) ∙ ap (λ (b : Bool). is_of n y.0 i || b) (hit_append n i xs x) ∙ or_more (is_of n y.0 i) (hit n xs i) (is_of n x.0 i)
+    ∙ ap (λ (b : Bool). b || is_of n x.0 i) (sym (hit_more n i y xs))
+  where
+    or_more : (a b c : Bool) → (a || (b || c)) ≡ ((a || b) || c)
+    or_more a b c = grind arith
 
-and_more : (a b c : Bool) → ((a && not b) && not c) ≡ (a && not (b || c))
-and_more true true c = refl
-and_more true false c = refl
-and_more false b c = refl
+-- one surface more
+pub bits_more : (n : ℕ) (r : List ℕ) (at width i bits b : ℕ) → BitsOf n (surfaces_in r at width i) bits → ((y : ℕ) → bit y b ≡ is_of n (u32 r (at + width * i)) y)
+    → BitsOf n (surfaces_in r at width (i + 1)) (bit_or bits b)
+bits_more n r at width i bits b h e = λ y.
+    bit_or_lem y bits b ∙ rw (h y, e y) (sym (hit_append n y (surfaces_in r at width i) (a_surface (u32 r (at + width * i)))))
+    ∙ ap (λ (xs : List Surface). hit n xs y) (sym (map-range_with_len_more (λ (j : ℕ). a_surface (u32 r (at + width * j))) 0 i i (zero-add i)))
 
-module _ (n w w' : ℕ) (x : Surface) (xs : List Surface) where
-  with_more : With w n x.0 w' → (y : ℕ) → (bit y w' || hit n xs y) ≡ (bit y w || hit n (x ∷ xs) y)
-  with_more h y =
-      ap (λ (b : Bool). b || hit n xs y) (h y) ∙ or_more (bit y w) (is_of n x.0 y) (hit n xs y) ∙ ap (λ (b : Bool). bit y w || b) (sym (hit_more n y x xs))
+one_on : (k w a : ℕ) → k + w * a + w ≡ k + w * (a + 1)
+one_on k w a = grind arith
 
-  without_more : Without w n x.0 w' → (y : ℕ) → (bit y w' && not (hit n xs y)) ≡ (bit y w && not (hit n (x ∷ xs) y))
-  without_more h y =
-      ap (λ (b : Bool). b && not (hit n xs y)) (h y) ∙ and_more (bit y w) (is_of n x.0 y) (hit n xs y) ∙ ap (λ (b : Bool). bit y w && not b) (sym (hit_more n y x xs))
-
--- ---- the pictures handed out, from a place on
-
-shown_more : (st : Reading) (m k : ℕ) (r : List ℕ) → shown_on (read_shown st (suc m) (drop k r)) ≡ a_surface (u32 r (k + word_width)) ∷ shown_on (read_shown st m (drop (k + shown_width_in st) r))
+-- the pictures handed out, from the one with number a on, are told by the surfaces that stand there
+shown_from : (st : Reading) (r : List ℕ) (k m a : ℕ) → shown_on (read_shown st m (drop (k + shown_width_in st * a) r)) ≡ map (λ (i : ℕ). a_surface (u32 r (k + word_width + shown_width_in st * i))) (range_with_len a m)
 unfolding read_shown
-shown_more st m k r = rw (u32_drop k 4 r, drop-drop (shown_width_in st) k r)
+shown_from st r k zero a = refl
+shown_from st r k (suc m) a =
+    let w = shown_width_in st in
+    let e : k + w * a + word_width ≡ k + word_width + w * a = omega arith in
+    rw (u32_drop (k + w * a) word_width r, drop-drop w (k + w * a) r, e, one_on k w a, shown_from st r k m (a + 1))
 
-shown_none : (st : Reading) (bs : List ℕ) → shown_on (read_shown st 0 bs) ≡ []
-unfolding read_shown
-shown_none st bs = refl
-
-module _ (st : Reading) (n count i k : ℕ) (r : List ℕ) where
-  pub shown_again : (w w' : ℕ) → i < count → With w n (u32 r (k + word_width)) w'
-      → (y : ℕ) → (bit y w' || hit n (shown_on (read_shown st (count - (i + 1)) (drop (k + shown_width_in st) r))) y) ≡ (bit y w || hit n (shown_on (read_shown st (count - i) (drop k r))) y)
-  shown_again w w' lt h y =
-      let m = count - (i + 1) in
-      let e : suc m ≡ count - i = omega arith in
-      with_more n w w' (a_surface (u32 r (k + word_width))) (shown_on (read_shown st m (drop (k + shown_width_in st) r))) h y
-      ∙ ap (λ (xs : List Surface). bit y w || hit n xs y) (sym (shown_more st m k r) ∙ ap (λ (j : ℕ). shown_on (read_shown st j (drop k r))) e)
-
-  pub shown_ends : (w : ℕ) → count ≤ i → (y : ℕ) → bit y w ≡ (bit y w || hit n (shown_on (read_shown st (count - i) (drop k r))) y)
-  shown_ends w le y =
-      let e : count - i ≡ 0 = omega arith in
-      sym (ap (λ (xs : List Surface). bit y w || hit n xs y) (ap (λ (j : ℕ). shown_on (read_shown st j (drop k r))) e ∙ shown_none st (drop k r))
-      ∙ ap (λ (b : Bool). bit y w || b) (hit_none n y) ∙ or_false (bit y w))
-
--- ---- the surfaces released, from a place on
-
-released_none : (bs : List ℕ) → map a_surface (read_words 0 bs) ≡ []
+words_from : (r : List ℕ) (k m a : ℕ) → map a_surface (read_words m (drop (k + word_width * a) r)) ≡ map (λ (i : ℕ). a_surface (u32 r (k + word_width * i))) (range_with_len a m)
 unfolding read_words
-released_none bs = refl
+words_from r k zero a = refl
+words_from r k (suc m) a = ap (map a_surface) (words_more m (k + word_width * a) r) ∙ rw (one_on k word_width a, words_from r k m (a + 1))
 
-module _ (n count i k : ℕ) (r : List ℕ) where
-  pub released_again : (w w' : ℕ) → i < count → Without w n (u32 r k) w'
-      → (y : ℕ) → (bit y w' && not (hit n (map a_surface (read_words (count - (i + 1)) (drop (k + word_width) r))) y)) ≡ (bit y w && not (hit n (map a_surface (read_words (count - i) (drop k r))) y))
-  released_again w w' lt h y =
-      let m = count - (i + 1) in
-      let e : suc m ≡ count - i = omega arith in
-      without_more n w w' (a_surface (u32 r k)) (map a_surface (read_words m (drop (k + word_width) r))) h y
-      ∙ ap (λ (xs : List Surface). bit y w && not (hit n xs y)) (ap (map a_surface) (sym (words_more m k r) ∙ ap (λ (j : ℕ). read_words j (drop k r)) e))
+module _ (r : List ℕ) (k m : ℕ) where
+  shown_stand : (st : Reading) → shown_on (read_shown st m (drop k r)) ≡ surfaces_in r (k + word_width) (shown_width_in st) m
+  shown_stand st = let e : k + shown_width_in st * 0 ≡ k = omega arith in ap (λ (j : ℕ). shown_on (read_shown st m (drop j r))) (sym e) ∙ shown_from st r k m 0
 
-  pub released_ends : (w : ℕ) → count ≤ i → (y : ℕ) → bit y w ≡ (bit y w && not (hit n (map a_surface (read_words (count - i) (drop k r))) y))
-  released_ends w le y =
-      let e : count - i ≡ 0 = omega arith in
-      sym (ap (λ (xs : List Surface). bit y w && not (hit n xs y)) (ap (λ (j : ℕ). map a_surface (read_words j (drop k r))) e ∙ released_none (drop k r))
-      ∙ ap (λ (b : Bool). bit y w && not b) (hit_none n y) ∙ and_true (bit y w))
+  words_stand : map a_surface (read_words m (drop k r)) ≡ surfaces_in r k word_width m
+  words_stand = let e : k + word_width * 0 ≡ k = omega arith in ap (λ (j : ℕ). map a_surface (read_words m (drop j r))) (sym e) ∙ words_from r k m 0
 
 -- ---- a whole tail
 
-module _ (ws ws' : List ℕ) (x : ℕ) where
-  pub told_tail : (st : Reading) (r : List ℕ) (at p h h' : ℕ)
-      → WithAll (word ws PENDING) (surfaces_of ws) (shown_on (read_shown st (u8 r at) (drop (at + 1) r))) p
-      → WithoutAll (word ws HELD) (surfaces_of ws) (map a_surface (read_words (u8 r (released_at (shown_width_in st) r at)) (drop (released_at (shown_width_in st) r at + 1) r))) h
-      → With h (surfaces_of ws) x h' → Puts ws h' p ws' → Told ws x (read_tail st (drop at r)) ws'
-  told_tail st r at p h h' f g e u =
-      record {
-        surfaces = u.surfaces;
-        held = λ i. ap (bit i) u.held ∙ e i ∙ ap (λ (b : Bool). b || is_of (surfaces_of ws) x i)
-            (g i ∙ ap (λ (xs : List Surface). bit i (word ws HELD) && not (hit (surfaces_of ws) xs i)) (sym (released_is st at r)));
-        pending = λ i. ap (bit i) u.pending ∙ f i ∙ ap (λ (ps : List Shown). bit i (word ws PENDING) || hit (surfaces_of ws) (shown_on ps) i) (sym (handed_is st at r));
-      }
+pub tells_tail : (n : ℕ) (st : Reading) (r : List ℕ) (at h f : ℕ)
+    → BitsOf n (surfaces_in r (at + 1 + word_width) (shown_width_in st) (u8 r at)) h
+    → BitsOf n (surfaces_in r (released_at (shown_width_in st) r at + 1) word_width (u8 r (released_at (shown_width_in st) r at))) f
+    → Tells n (read_tail st (drop at r)) (record { handed = h; released = f })
+tells_tail n st r at h f p q =
+    let third = released_at (shown_width_in st) r at in
+    record {
+      handed = λ i. p i ∙ ap (λ (xs : List Surface). hit n xs i) (sym (ap shown_on (handed_is st at r) ∙ shown_stand r (at + 1) (u8 r at) st));
+      released = λ i. q i ∙ ap (λ (xs : List Surface). hit n xs i) (sym (released_is st at r ∙ words_stand r (third + 1) (u8 r third)));
+    }
 
-  -- a reply without one
-  pub told_quiet : (t : Tail) (h : ℕ) → t ≡ quiet → With (word ws HELD) (surfaces_of ws) x h → Puts ws h (word ws PENDING) ws' → Told ws x t ws'
-  told_quiet t h q e u =
+-- a reply without one
+pub tells_quiet : (n : ℕ) (t : Tail) → t ≡ quiet → Tells n t (record { handed = 0; released = 0 })
+tells_quiet n t q =
+    let none : (i : ℕ) → bit i 0 ≡ hit n [] i = λ i. bit_zero i ∙ sym (hit_none n i) in
+    record {
+      handed = λ i. none i ∙ ap (λ (v : Tail). hit n (shown_on v.handed) i) (sym q);
+      released = λ i. none i ∙ ap (λ (v : Tail). hit n v.released i) (sym q);
+    }
+
+-- what the words are once a tail was told
+module _ (ws : List ℕ) (three : length ws ≡ 3) (v : ℕ) where
+  abbrev once : List ℕ
+  once = set ws HELD v
+
+  pub told_tail : (x : ℕ) (t : Tail) (a : Code.Tail) (h b : ℕ) → v ≡ bit_or h b → Tells (surfaces_of ws) t a
+      → ((i : ℕ) → bit i b ≡ is_of (surfaces_of ws) x i) → ((i : ℕ) → bit i h ≡ (bit i (word ws HELD) && not (bit i a.released)))
+      → Told ws x t (set once PENDING (bit_or (word once PENDING) a.handed))
+  told_tail x t a h b q k e c =
+      let u = bit_or (word once PENDING) a.handed in
+      let few : length once ≡ 3 = length-set ws HELD v ∙ three in
+      let held : word (set once PENDING u) HELD ≡ bit_or h b = get_or-set_other once PENDING HELD u 0 (omega arith) ∙ (get_or-set_same ws HELD v 0 (omega arith) ∙ q) in
+      let pending : word (set once PENDING u) PENDING ≡ bit_or (word ws PENDING) a.handed = get_or-set_same once PENDING u 0 (omega arith) ∙ ap (λ (w : ℕ). bit_or w a.handed) (get_or-set_other ws HELD PENDING v 0 (omega arith)) in
       record {
-        surfaces = u.surfaces;
-        held = λ i. ap (bit i) u.held ∙ e i ∙ ap (λ (b : Bool). b || is_of (surfaces_of ws) x i)
-            (sym (ap (λ (v : Tail). bit i (word ws HELD) && not (hit (surfaces_of ws) v.released i)) q
-            ∙ ap (λ (b : Bool). bit i (word ws HELD) && not b) (hit_none (surfaces_of ws) i) ∙ and_true (bit i (word ws HELD))));
-        pending = λ i. ap (bit i) u.pending
-            ∙ sym (ap (λ (v : Tail). bit i (word ws PENDING) || hit (surfaces_of ws) (shown_on v.handed) i) q
-            ∙ ap (λ (b : Bool). bit i (word ws PENDING) || b) (hit_none (surfaces_of ws) i) ∙ or_false (bit i (word ws PENDING)));
+        surfaces = get_or-set_other once PENDING SURFACES u 0 (omega arith) ∙ get_or-set_other ws HELD SURFACES v 0 (omega arith);
+        held = λ i. ap (bit i) held ∙ (bit_or_lem i h b ∙ rw (c i, e i, k.released i));
+        pending = λ i. ap (bit i) pending ∙ (bit_or_lem i (word ws PENDING) a.handed ∙ rw (k.handed i));
       }
 
 -- ---- whether a reply has one
@@ -131,8 +126,8 @@ module _ (st : Reading) (a : List ℕ) where
       (λ z. tail_listed st a (eqb-true (u16 a number_place) 0 z) (eqb-true (kind_of a) (reply_to lists_kind) (rw z at h)))
       (λ z. tail_refused st a (eqb-false (u16 a number_place) 0 z))
 
-  pub tail_of : (not (eqb (u16 a number_place) 0) || eqb (kind_of a) (reply_to lists_kind)) ≡ false → tail_in (read_reply st a) ≡ read_tail st (drop (tail_place a) a)
-  tail_of h =
+  pub tail_is : (not (eqb (u16 a number_place) 0) || eqb (kind_of a) (reply_to lists_kind)) ≡ false → tail_in (read_reply st a) ≡ read_tail st (drop (tail_place a) a)
+  tail_is h =
       split (eqb (u16 a number_place) 0)
       (λ z. tail_read st a (eqb-true (u16 a number_place) 0 z) (eqb-false (kind_of a) (reply_to lists_kind) (rw z at h)))
       (λ z. let t : true ≡ false = rw z at h in not_both true refl t)

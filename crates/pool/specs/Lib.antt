@@ -1,4 +1,5 @@
 pub mod Pool
+pub mod Numbered
 pub mod Calls
 pub mod History
 pub mod Statement

@@ -1,5 +1,7 @@
 -- Document 02, Item 10, "A surface pool for the device": the pool, what is free in it, and the lowest free surface.
-use Rattle.std.specs.Prelude.{ℕ, zero, suc, ◌+◌, Bool, false, cond, not, ◌&&◌, ltb, leb, eqb}
+use Rattle.std.specs.Prelude.{ℕ, zero, suc, ◌+◌, Bool, false, cond, not, ◌&&◌, ltb, leb, eqb, Option, None, Some}
+use Rattle.paper.specs.declared.Surface.{Surface}
+use Rattle.paper.specs.Numbers.{a_surface}
 use Rattle.paper.specs.State.{Session, fresh}
 use Rattle.paper.specs.declared.Reading.{Reading}
 use Rattle.paper.specs.Reading.{opening}
@@ -14,6 +16,14 @@ can_make n = leb 1 n && leb n surface_limit
 -- "the call answers that number beside the reply, or 64 if no begin was accepted"
 abbrev pub no_surface : ℕ
 no_surface = 64
+
+-- the surface of a number, which is none where the number is that; and the number that a host is told
+abbrev pub surface_at : ℕ → Option Surface
+surface_at x = cond (eqb x no_surface) None (Some (a_surface x))
+
+abbrev pub number_at : Option Surface → ℕ
+number_at None = no_surface
+number_at (Some x) = x.0
 
 -- "a second layer above the session". The pool has a session and some surfaces. Of each surface it keeps whether it
 -- believes that the session holds it ("The pool's picture of "held""), and how many returns are pending on it; and it

@@ -1,12 +1,18 @@
 -- What a call of the pool answers, writes and leaves: the contracts of `make`, `step` and `give_back`.
-use Rattle.std.specs.Prelude.{ℕ, ◌≤◌, ◌≡◌, List, true, cond, length, replicate}
+use Rattle.std.specs.Prelude.{ℕ, ◌≤◌, ◌≡◌, List, true, false, cond, ◌&&◌, eqb, length, replicate, Option, None, is_none, Result, MatchResult}
 use Rattle.wire.specs.Bytes.{over}
+use Rattle.paper.specs.declared.Surface.{Surface}
+use Rattle.paper.specs.Kinds.{begin_kind}
+use Rattle.paper.specs.Records.{kind_of}
 use Rattle.paper.specs.State.{all_refs}
 use Rattle.store.specs.StoreWords.{word}
 use Rattle.session.specs.View.{Memory}
 use Rattle.session.specs.Laid.{NormalMemory}
+use Rattle.session.specs.Target.{is_begin}
 use Rattle.pool.specs.declared.Given as Code
-use Rattle.pool.specs.Pool.{can_make, made}
+use Rattle.pool.specs.declared.Refusal.{Refusal}
+use Rattle.pool.specs.declared.Refusal.TheVariants.{NoneFree}
+use Rattle.pool.specs.Pool.{Pool, can_make, made, surface_at, lowest_free}
 use Rattle.pool.specs.Calls.{pool_step, pool_return}
 use Rattle.pool.specs.Memory.{PoolMemory, pool_in, at_most_one, pool_memory, SURFACES}
 
@@ -19,6 +25,14 @@ pub record Makes (m : PoolMemory) (n k : ℕ) (m' : PoolMemory) : Type 0 where
   pub surfaces : can_make n ≡ true → word m'.words SURFACES ≡ n
   pub left : (k ≡ 0 → ⊥) → m' ≡ m
 
+-- what a record is taken with: where its kind is that of a begin the lowest free surface, and else none. A well-formed
+-- begin is taken with one, or is refused where none is free
+abbrev pub TakenWith : Pool → List ℕ → Result (Option Surface) Refusal → Type 0
+TakenWith p r a =
+    MatchResult a
+    (λ o. (o ≡ cond (eqb (kind_of r) begin_kind) (surface_at (lowest_free p)) None) × ((is_none o && is_begin r) ≡ false))
+    (λ e. (e ≡ NoneFree) × ((surface_at (lowest_free p) ≡ None) × (is_begin r ≡ true)))
+
 -- `step`: the answer, the whole buffer and the next pool are those of `pool_step`; a refused record leaves every word as
 -- it was, and the count of the surfaces stays; the session's memory stays in its normal form, and the run of the sets
 -- as it was behind the next session's members
@@ -28,7 +42,7 @@ pub record Permitted (m : PoolMemory) (r before : List ℕ) (a : Code.Given) (m'
       ≡ record {
         number = (pool_step (pool_in m) r (length before)).number;
         len = length (pool_step (pool_in m) r (length before)).bytes;
-        surface = (pool_step (pool_in m) r (length before)).surface;
+        surface = surface_at (pool_step (pool_in m) r (length before)).surface;
       }
   pub bytes : after ≡ over (pool_step (pool_in m) r (length before)).bytes before
   pub next : pool_in m' ≡ at_most_one (pool_step (pool_in m) r (length before)).next

@@ -1,7 +1,7 @@
 -- A run of calls of the code from a pool that `make` made: what each call was lent, answered and left.
 use Rattle.std.specs.Prelude.{ℕ, ◌≡◌, List, [], ◌∷◌, length, take}
 use Rattle.pool.specs.declared.Given as Code
-use Rattle.pool.specs.Pool.{no_surface, made}
+use Rattle.pool.specs.Pool.{no_surface, made, number_at}
 use Rattle.pool.specs.History.{Call, Lends, Returns, Heard, after_all, heard_from}
 use Rattle.pool.specs.Memory.{PoolMemory, pool_in}
 use Rattle.pool.specs.Said.{Permitted, GivesBack}
@@ -34,7 +34,7 @@ abbrev pub heard_of : Called → Heard
 heard_of (Stepped r before a after) =
     record {
       call = Lends r (length before);
-      answer = record { number = a.number; bytes = take a.len after; surface = a.surface };
+      answer = record { number = a.number; bytes = take a.len after; surface = number_at a.surface };
     }
 heard_of (Gave x number) =
     record {

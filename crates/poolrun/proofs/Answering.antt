@@ -1,21 +1,19 @@
 -- One answer put behind those that are there: the reply lies behind the place of the head, and the head is written in
 -- front of it. The lent part of the buffer has just 512 bytes, so the pool answers as with the room of a call.
-use Prim.Native.Nat.{ℕ, ◌+◌, ◌-◌, ◌≤◌, ◌<◌}
+use Prim.Native.Nat.{ℕ, ◌+◌, ◌-◌, ◌≤◌}
 use mathlib.Core.Path.{◌≡◌, refl, sym, ap, ap₂, ◌∙◌}
 use mathlib.Core.List.{List, ◌++◌}
 use mathlib.Core.Bool.{true, false}
 use native.Mathlib.Omega.{arith}
 use lib.ListN.{length, take, drop, length-drop, length-append}
 use lib.Seq.{sets, length-take-le, take_all}
-use borrow.Author.Tests.{eqb-true}
 use Rattle.wire.specs.Bytes.{over}
 use Rattle.paper.specs.Numbers.{u32}
-use Rattle.paper.specs.Records.{length_of}
-use Rattle.format.specs.Cut.{size_of}
-use Rattle.format.proofs.Fitting.{size_whole}
+use Rattle.paper.proofs.Bools.{split}
 use Rattle.session.specs.View.{Memory}
 use Rattle.pool.specs.declared.Given as Code
-use Rattle.pool.specs.Pool.{Pool, no_surface}
+use Rattle.pool.specs.Pool.{Pool, no_surface, surface_at, number_at}
+use Rattle.pool.proofs.StepLaws.{number_surface}
 use Rattle.pool.specs.Calls.{Given, pool_step, pool_return}
 use Rattle.pool.specs.History.{Lends, Returns, answer_to, after}
 use Rattle.pool.specs.Memory.{PoolMemory, pool_memory, pool_in, at_most_one}
@@ -24,11 +22,18 @@ use Rattle.stream.specs.Laid.{laid_at}
 use Rattle.stream.proofs.Laying.{laid_part, sets_laid, head_laid}
 use Rattle.filter.specs.Answers.{Added}
 use Rattle.filter.proofs.Fitting.{over_longest}
-use Rattle.poolrun.specs.Files.{is_return, call_in, head_bytes, answer_bytes}
+use Rattle.poolrun.specs.declared.Kind.TheVariants.{Record, Return}
+use Rattle.poolrun.specs.Files.{is_return, done_by, call_in, head_bytes, answer_bytes}
 use Rattle.poolrun.specs.Machine.{pools}
 use Rattle.poolrun.proofs.Surfaces.{surface_small, held_whole}
 
 -- ---- what the machine says of a call
+
+pub lends_record : (c : List ℕ) → done_by c ≡ Record → is_return c ≡ false
+lends_record c h = split (is_return c) (λ e. let k = rw e at h in cc) (λ e. e)
+
+pub returns_surface : (c : List ℕ) → done_by c ≡ Return → is_return c ≡ true
+returns_surface c h = split (is_return c) (λ e. e) (λ e. let k = rw e at h in cc)
 
 module _ (c : List ℕ) (is : is_return c ≡ false) where
   lends : call_in c ≡ Lends (drop 4 c) 512
@@ -78,9 +83,9 @@ module _ {m m' : PoolMemory} {part : List ℕ} {a : Code.Given} (c : List ℕ) (
   unfolding given
   same_step = let k = length-drop 4 c in ap₂ (pool_step (pool_in m)) (take_all (length c - 4) (drop 4 c) (omega arith)) room
 
-  answer_is : a ≡ record { number = given.number; len = length given.bytes; surface = given.surface }
+  answer_is : a ≡ record { number = given.number; len = length given.bytes; surface = surface_at given.surface }
   unfolding mid
-  answer_is = p.answer ∙ ap (λ (g : Given). record { number = g.number; len = length g.bytes; surface = g.surface }) same_step
+  answer_is = p.answer ∙ ap (λ (g : Given). record { number = g.number; len = length g.bytes; surface = surface_at g.surface }) same_step
 
   bytes_are : part ≡ over given.bytes mid
   unfolding mid
@@ -91,18 +96,18 @@ module _ {m m' : PoolMemory} {part : List ℕ} {a : Code.Given} (c : List ℕ) (
   bytes_fit = over_longest given.bytes mid (sym (ap length bytes_are) ∙ same)
 
   -- so the head can say both
-  pub answer_fits : (a.len ≤ 512) × (a.surface ≤ 64)
+  pub answer_fits : (a.len ≤ 512) × (number_at a.surface ≤ 64)
   unfolding given
   answer_fits =
       let k = bytes_fit in
       let r = room in
       let e : a.len ≡ length given.bytes = ap (λ (x : Code.Given). x.len) answer_is in
-      let f : a.surface ≡ given.surface = ap (λ (x : Code.Given). x.surface) answer_is in
+      let f : number_at a.surface ≡ given.surface = ap (λ (x : Code.Given). number_at x.surface) answer_is ∙ number_surface given.surface in
       let small : given.surface ≤ 64 = surface_small (pool_in m) (drop 4 c) 512 in
       (omega arith, omega arith)
 
   module _ {after : List ℕ} (is : is_return c ≡ false)
-      (put : after ≡ sets (take (made + 8) out ++ (part ++ drop (made + 520 - (made + 8)) (drop (made + 8) out))) made (head_bytes 0 a.len a.number a.surface)) where
+      (put : after ≡ sets (take (made + 8) out ++ (part ++ drop (made + 520 - (made + 8)) (drop (made + 8) out))) made (head_bytes 0 a.len a.number (number_at a.surface))) where
     pub recorded : Added pools (pool_in m) c made out (8 + a.len) (pool_in m') after
     unfolding mid given
     recorded =
@@ -116,8 +121,9 @@ module _ {m m' : PoolMemory} {part : List ℕ} {a : Code.Given} (c : List ℕ) (
           long = ap (λ (n : ℕ). 8 + n) e ∙ sym (ap length said ∙ length-append head g.bytes);
           bytes =
               put
-              ∙ ap₂ (λ (l : List ℕ) (x : Code.Given). sets l made (head_bytes 0 x.len x.number x.surface))
+              ∙ ap₂ (λ (l : List ℕ) (x : Code.Given). sets l made (head_bytes 0 x.len x.number (number_at x.surface)))
               (laid_part (made + 8) (made + 520 - (made + 8)) g.bytes out bytes_fit bytes_are) answer_is
+              ∙ ap (λ (y : ℕ). sets (laid_at (made + 8) g.bytes out) made (head_bytes 0 (length g.bytes) g.number y)) (number_surface g.surface)
               ∙ head_laid made head g.bytes out (omega arith)
               ∙ ap (λ (x : List ℕ). laid_at made x out) (sym said);
           next = p.next ∙ ap (λ (x : Given). at_most_one x.next) same_step ∙ sym (next_record c is (pool_in m));
@@ -136,12 +142,3 @@ returned {ws} {ws'} {c} {after} {k} made out h is g put m =
       bytes = put ∙ sets_laid made (head_bytes 1 0 k no_surface) out (omega arith) ∙ ap (λ (x : List ℕ). laid_at made x out) (sym said);
       next = held_whole (pool_memory ws' m) (g.next m) ∙ sym (next_return c is p);
     }
-
--- ---- a whole call has a head
-
-pub call_long : (l : List ℕ) (taken n : ℕ) → 0 < n → n ≡ size_of (drop taken l) → 4 ≤ length (take (taken + n - taken) (drop taken l))
-call_long l taken n h e =
-    let k : taken + n - taken ≡ n = omega arith in
-    let r = take n (drop taken l) in
-    let w : length r ≡ 4 + length_of r = eqb-true (length r) (4 + length_of r) (size_whole (drop taken l) n h e) in
-    rw k (omega (arith, w))

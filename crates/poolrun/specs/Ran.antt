@@ -6,7 +6,7 @@ use Rattle.pool.specs.Pool.{Pool, made}
 use Rattle.pool.specs.History.{heard_from, after_all}
 use Rattle.pool.specs.Statement.{Promises}
 use Rattle.filter.specs.Machine.{outs}
-use Rattle.filter.specs.Turns.{Stand, waiting}
+use Rattle.filter.specs.Turns.{more, unwritten, Stand, waiting}
 use Rattle.poolrun.specs.Files.{call_in}
 use Rattle.poolrun.specs.Machine.{exactly}
 
@@ -22,5 +22,5 @@ pub record Pooled (n : ℕ) (R W : List ℕ) (s : Stand Pool) : Type 0 where
   pub pool : s.state ≡ after_all (made n) (map call_in said)
   pub promises : Promises n s.state (heard_from (made n) (map call_in said))
   -- where the run ends because no more is read, W is the answers to the whole calls of R
-  pub all : s.after.more ≡ false → s.after.unwritten ≡ false
+  pub all : more s.after ≡ false → unwritten s.after ≡ false
       → (W ≡ joined (outs exactly (made n) (cut R))) × (waiting s ≡ rest_of R)

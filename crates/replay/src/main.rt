@@ -3,16 +3,13 @@
 // reply.
 #![tactic(auto)]
 
-ghost use Rattle.std.specs.Prelude.{◌≡◌, ◌+◌, ◌-◌, ◌≤◌, ◌<◌, length, drop};
-ghost use Rattle.format.specs.Cut.{size_of};
-ghost use Rattle.paper.specs.State.{fresh};
-ghost use Rattle.session.specs.View.{memory, session_in};
-ghost use Rattle.filter.specs.Answers.{Added, Answers};
-ghost use Rattle.filter.specs.Turns.{Turned, standing, Serves};
-ghost use Rattle.replay.specs.Machine.{sessions};
+ghost use Rattle.std.specs.Prelude.{◌≤◌, length};
+ghost use Rattle.paper.specs.State.{Session, fresh};
+ghost use Rattle.filter.specs.Turns.{standing, Serves};
+ghost use Rattle.replay.specs.Machine.{sessions, session_of};
 
-use filter::{After, Answered};
-use session::{Answer, FRONT};
+use filter::{After, Machine};
+use session::FRONT;
 use std::io;
 use std::io::{Read, Write};
 use store::Store;
@@ -23,130 +20,61 @@ const INPUT: usize = 131072;
 // Room for the replies of one write.
 const OUTPUT: usize = 65536;
 
-// Answers one record, with the reply behind the `made` bytes of the earlier ones.
-fn reply_to(
-    front: &mut [u32; FRONT],
-    sets: &mut [u32; Store::CAPACITY],
-    store: &mut [u32; Store::WORDS],
-    msg: &[u8],
-    replies: &mut [u8],
-    made: usize,
-) -> Answer
-    requires { made + 512 ≤ length replies.old }
-    ensures { Added sessions (session_in (memory front.old sets.old store.old))
-        msg.now made replies.old result.len
-        (session_in (memory front.new sets.new store.new)) replies.new }
-{
-    session::step(front, sets, store, msg, &mut replies[made..])
+// The memory of a session: what it keeps between records.
+#[derive(Drop)]
+struct Memory {
+    front: [u32; FRONT],
+    sets: [u32; Store::CAPACITY],
+    store: [u32; Store::WORDS],
 }
 
-// Answers the whole records at the start of these bytes, one after the other, while there is room for a reply.
-fn answer(
-    front: &mut [u32; FRONT],
-    sets: &mut [u32; Store::CAPACITY],
-    store: &mut [u32; Store::WORDS],
-    bytes: &[u8],
-    replies: &mut [u8],
-) -> Answered
-    ensures within { (result.taken ≤ length bytes.now) × (result.made ≤ length replies.new) }
-    ensures answers { Answers sessions
-        (session_in (memory front.old sets.old store.old)) bytes.now
-        (session_in (memory front.new sets.new store.new)) result.taken result.made
-        replies.old replies.new }
-    ensures all { result.made + 512 ≤ length replies.new
-        → size_of (drop result.taken bytes.now) ≡ 0 }
-{
-    let mut taken = 0;
-    let mut made = 0;
-    while made + Store::REPLY <= replies.len() {
-        let n = format::size(&bytes[taken..]);
-        if n == 0 {
-            return Answered { taken, made };
-        }
-        let e = taken + n;
-        let a = reply_to(front, sets, store, &bytes[taken..e], replies, made);
-        taken = e;
-        made += a.len;
+// A session answers records, each with its reply.
+impl Machine for Memory {
+    const ROOM: usize = Store::REPLY;
+
+    ghost ROOM = { 512 };
+
+    ghost State = { Session };
+
+    ghost moves = { sessions };
+
+    ghost state = { session_of };
+
+    fn answer(&mut self, record: &[u8], replies: &mut [u8], made: usize) -> usize {
+        let Memory { front, sets, store } = self;
+        session::step(front, sets, store, record, &mut replies[made..]).len
     }
-    Answered { taken, made }
 }
 
-// Answers what is whole and writes the replies; reads on only where nothing is whole, so that no reply waits for input.
-fn turn<R: Read, W: Write>(
-    source: &mut R,
-    sink: &mut W,
-    front: &mut [u32; FRONT],
-    sets: &mut [u32; Store::CAPACITY],
-    store: &mut [u32; Store::WORDS],
-    held: usize,
-    input: &mut [u8],
-    output: &mut [u8],
-) -> After
-    requires held_in_bounds { held ≤ length input.old }
-    requires in_bounds { (65539 ≤ length input.old) × (512 ≤ length output.old) }
-    ensures held_in_bounds_2 { result.held ≤ length input.new }
-    ensures turned { Turned sessions
-        (session_in (memory front.old sets.old store.old)) held input.old
-        output.old (session_in (memory front.new sets.new store.new)) result
-        input.new output.new }
-{
-    let a = answer(front, sets, store, &input[..held], output);
-    filter::go_on(source, sink, a, held, input, output)
-}
-
-// Turn after turn from a fresh session. Nothing says that the input ends, so the turns are counted.
+// Turn after turn from a fresh session.
 fn run<R: Read, W: Write>(
+    machine: &mut Memory,
     source: &mut R,
     sink: &mut W,
-    front: &mut [u32; FRONT],
-    sets: &mut [u32; Store::CAPACITY],
-    store: &mut [u32; Store::WORDS],
     input: &mut [u8],
     output: &mut [u8],
 ) -> After
     requires { (65539 ≤ length input.old) × (512 ≤ length output.old) }
-    ensures { Serves sessions fresh
-        (standing (session_in (memory front.new sets.new store.new)) result input.new
-        output.new) }
+    ensures { Serves sessions fresh (standing (session_of machine.new) result input.new output.new) }
 {
-    session::fresh(front, sets, store);
-    let mut t = filter::start();
-    let mut left: u64 = 18446744073709551615;
-    while left > 0 {
-        t = turn(source, sink, front, sets, store, t.held, input, output);
-        left = stream::turns_left(left, t.more);
-    }
-    t
-}
-
-// What failed is named on standard error.
-fn finish<E: Eprint>(rt: &E, t: After) -> io::Result<()> {
-    if t.unread {
-        eprintln!(rt; "replay: standard input can't be read")?;
-    }
-    if t.unwritten {
-        eprintln!(rt; "replay: standard output can't be written")?;
-    }
-    Ok(())
+    session::fresh(&mut machine.front, &mut machine.sets, &mut machine.store);
+    filter::run(machine, source, sink, input, output)
 }
 
 // The session and both buffers are here, of one size for any length of input.
 fn main(rt: HostRuntime) -> io::Result<()> {
     let mut source = rt.stdin();
     let mut sink = rt.stdout();
-    let mut front = [0u32; FRONT];
-    let mut sets = [0u32; Store::CAPACITY];
-    let mut store = [0u32; Store::WORDS];
+    let mut memory = Memory {
+        front: [0; FRONT],
+        sets: [0; Store::CAPACITY],
+        store: [0; Store::WORDS],
+    };
     let mut input = [0u8; INPUT];
     let mut output = [0u8; OUTPUT];
-    let t = run(
-        &mut source,
-        &mut sink,
-        &mut front,
-        &mut sets,
-        &mut store,
-        &mut input,
-        &mut output,
-    );
-    finish(&rt, t)
+    let t = run(&mut memory, &mut source, &mut sink, &mut input, &mut output);
+    if let Some(what) = t.next.failure() {
+        eprintln!(rt; "replay: {what}")?;
+    }
+    Ok(())
 }

@@ -8,16 +8,15 @@ use lib.ListN.{length, length-map, length-append}
 use lib.Dec.{eqb}
 use lib.IntN.{ℤ}
 use lib.Signed.{mag}
-use borrow.Author.Tests.{ltb-true, not-true, not-false}
+use borrow.Author.Tests.{ltb-true}
 use mir.Syntax.{w32}
 use mir.Val.{to_z, of_z}
 use mir.Facts.{to_z-of_z}
 use Rattle.paper.specs.declared.Picture.{Picture}
+use Rattle.paper.specs.declared.Wish.{Wish}
 use Rattle.paper.specs.declared.Serial.{Serial}
 use Rattle.paper.specs.declared.Limits.{Limits}
-use Rattle.paper.specs.declared.Prev.{Prev}
 use Rattle.paper.specs.declared.Current.{Current}
-use Rattle.paper.specs.declared.Now.TheVariants as Now
 use Rattle.paper.specs.Words.{table}
 use Rattle.paper.specs.Numbers.{serial_nos, a_serial, flag_at}
 use Rattle.paper.specs.Kinds.{begin_kind, reply_to}
@@ -37,7 +36,8 @@ use Rattle.paper.proofs.Ways.{begun}
 use Rattle.paper.proofs.Fits.{few_entries, table_length}
 use Rattle.wire.specs.Bytes.{over}
 use Rattle.derivation.specs.declared.poc.Poc.{Poc}
-use Rattle.derivation.specs.declared.poc.Poc.TheVariants as A
+use Rattle.std.proofs.Common.{Result, Ok, Err}
+use Rattle.derivation.specs.declared.Outside.{Outside}
 use Rattle.derivation.specs.declared.ref_lists.Refs.{Refs}
 use Rattle.derivation.specs.Answers.{poc_answer}
 use Rattle.derivation.specs.Pad.{Padded, used}
@@ -45,7 +45,6 @@ use Rattle.derivation.specs.Lists.{blank_serial, serials_in, member_at, members_
 use Rattle.derivation.proofs.Pad.{is_view, is_long}
 use Rattle.derivation.proofs.Numbered.{poc_val, poc_out}
 use Rattle.derivation.proofs.Runs.{refs_are}
-use Rattle.session.specs.declared.Answer.{Answer}
 use Rattle.store.specs.declared.Sizes.{Sizes}
 use Rattle.store.specs.declared.Derived.{Derived}
 use Rattle.store.specs.declared.Moved as Store
@@ -62,10 +61,10 @@ use Rattle.session.specs.FrontPlaces.{ENDED, NEXT}
 use Rattle.session.specs.Laid.{sizes_of, front_of, front_words}
 use Rattle.session.specs.Laid as Laid
 use Rattle.session.specs.View.{Memory, memory, session_in, session_of, Front, front_in, limits_at, begun_front}
-use Rattle.session.specs.Said.{Says, Answers, Does}
+use Rattle.session.specs.Said.{accepts, Says, Answers, Tries}
 use Rattle.session.specs.Target.{fields_with}
 use Rattle.format.specs.Reads.{begin_fields}
-use Rattle.session.specs.Parts.{HoldsWishes}
+use Rattle.session.specs.Parts.{all_inside, HoldsWishes}
 use Rattle.session.specs.Written.{FewMembers, numbers_from, member_bytes, begun_part, told_bytes}
 use Rattle.session.specs.Starts.{flags_from, prev_from, current_from, told_from, refs_from, Passed, Placed, Wished, Tells}
 use Rattle.store.proofs.StoreWords.{table_same, table_map, table_join}
@@ -74,7 +73,9 @@ use Rattle.session.proofs.Bytes.{take_table, words_join}
 use Rattle.session.proofs.Entries.{entries_are}
 use Rattle.session.proofs.Ways.{begin_6, begin_0}
 use Rattle.session.proofs.Wishing.{apart}
-use Rattle.session.proofs.Saying.{as_decided, tail_held}
+use Rattle.session.proofs.Saying.{gives_as, tail_held}
+use Rattle.std.proofs.Common.{Option, Some, Ok}
+use Rattle.paper.specs.declared.Tid0.{Tid0}
 
 -- ---- number 6 and acceptance, behind the other tests
 
@@ -96,7 +97,7 @@ module _ (s : Session) (x : Surface) (r : List ℕ) where
   abbrev flags_now : Flags
   flags_now = flags_from s.at_start s.ended (begin_fields r)
 
-  abbrev prev_now : Prev
+  abbrev prev_now : Option Tid0
   prev_now = prev_from flags_now.over s.prev
 
   starts_is : starts_over s (fields_with x r) ≡ flags_now.over
@@ -108,11 +109,11 @@ module _ (s : Session) (x : Surface) (r : List ℕ) where
 
   msb_is : msb_of (modulus s.limits) prev_now (begin_fields r).lsb ≡ msb s (fields_with x r)
   unfolding msb fields_with fields_of
-  msb_is = ap (λ (q : Prev). msb_of (modulus s.limits) q (begin_fields r).lsb) (sym prev_is)
+  msb_is = ap (λ (q : Option Tid0). msb_of (modulus s.limits) q (begin_fields r).lsb) (sym prev_is)
 
   poc_is : poc_of (modulus s.limits) prev_now (begin_fields r).lsb ≡ poc s (fields_with x r)
   unfolding poc fields_with fields_of
-  poc_is = ap (λ (q : Prev). poc_of (modulus s.limits) q (begin_fields r).lsb) (sym prev_is)
+  poc_is = ap (λ (q : Option Tid0). poc_of (modulus s.limits) q (begin_fields r).lsb) (sym prev_is)
 
   poc_outside : (in32 (msb s (fields_with x r)) && in32 (poc s (fields_with x r))) ≡ false → within s (fields_with x r) ≡ false
   unfolding within
@@ -188,7 +189,7 @@ flags_are s r h t p =
       over = ap (λ (x : Flags). x.over) e;
     }
 
-module _ (s : Session) (r : List ℕ) {l : Limits} (h : BeginFields) (t : Start) (ps : List ℤ) (hs : List ℕ) (q : Wished s r l h t ps hs) where
+module _ (s : Session) (r : List ℕ) {l : Limits} (h : BeginFields) (t : Start) (ws : List Wish) (q : Wished s r l h t ws) where
   abbrev M : ℕ
   M = modulus s.limits
 
@@ -196,7 +197,7 @@ module _ (s : Session) (r : List ℕ) {l : Limits} (h : BeginFields) (t : Start)
   g = fields_with h.surface r
 
   abbrev asked : Wishes
-  asked = wishes_in ps hs h.neg h.pos h.lt
+  asked = wishes_in ws h.neg h.pos h.lt
 
   abbrev old : List Picture
   old = unmarked_if t.flags.over s.store
@@ -239,10 +240,10 @@ module _ (s : Session) (r : List ℕ) {l : Limits} (h : BeginFields) (t : Start)
 
 -- ---- step 5 and the reply
 
-pub tells : (h : List ℕ) (us vs : List Serial) (ps : List Picture) (p : List ℕ) (t : Start) (x : Sizes) {l : Limits} {b : Bool} {y : Told} {p' : List ℕ} {c : Store.Moved} {before : List ℕ} {a : Answer} {after : List ℕ}
+pub tells : (h : List ℕ) (us vs : List Serial) (ps : List Picture) (p : List ℕ) (t : Start) (x : Sizes) {l : Limits} {b : Bool} {y : Told} {p' : List ℕ} {c : Store.Moved} {before : List ℕ} {len : ℕ} {after : List ℕ}
     → l ≡ limits_at h → b ≡ flag_of (word h ENDED) → y ≡ told_from (word h NEXT) t → Leaves (before_decoding (t.flags.over && not b) t.flags.prior l ps) p p' c
-    → Says (framed (reply_to begin_kind) 0 (begun_part y x us vs ++ tail_bytes (tail_in c))) before a after → Tells h us vs ps p t x before a p' after
-tells h us vs ps p t x {l} {b} {y} {p'} {c} {before} {a} {after} el eb ey k w =
+    → Says (framed (reply_to begin_kind) 0 (begun_part y x us vs ++ tail_bytes (tail_in c))) before len after → Tells h us vs ps p t x before len p' after
+tells h us vs ps p t x {l} {b} {y} {p'} {c} {before} {len} {after} el eb ey k w =
     let m : before_decoding (t.flags.over && not b) t.flags.prior l ps ≡ before_decoding (t.flags.over && not (flag_of (word h ENDED))) t.flags.prior (limits_at h) ps =
     λ i. before_decoding (t.flags.over && not (eb i)) t.flags.prior (el i) ps
     in
@@ -250,15 +251,15 @@ tells h us vs ps p t x {l} {b} {y} {p'} {c} {before} {a} {after} el eb ey k w =
     record {
       pics = k.pics ∙ ap (λ (z : Moved). z.pics) m;
       normal = k.normal;
-      says = subst (λ (z : List ℕ). Says (framed (reply_to begin_kind) 0 z) before a after) (λ i. begun_part (ey i) x us vs ++ tail_bytes (e i)) w;
+      says = subst (λ (z : List ℕ). Says (framed (reply_to begin_kind) 0 z) before len after) (λ i. begun_part (ey i) x us vs ++ tail_bytes (e i)) w;
     }
 
 -- ---- a begin that nothing refuses, from what its parts did: the marks and the sets, then the room and the reply, then
 -- the words beside the store
 
-module _ (m : Memory) (r : List ℕ) {l : Limits} (h : BeginFields) (t : Start) (ps : List ℤ) (hs : List ℕ) (q : Wished (session_in m) r l h t ps hs)
-    (y : Derived) (d : Derives (modulus l) (unmarked_if t.flags.over (stored m.store)) (wishes_within ps hs h.neg h.pos h.lt) y)
-    {before : List ℕ} {a : Answer} {p' after : List ℕ} (w : Tells m.front y.first y.second (stored_in y.store) m.store t y.sizes before a p' after)
+module _ (m : Memory) (r : List ℕ) {l : Limits} (h : BeginFields) (t : Start) (ws : List Wish) (q : Wished (session_in m) r l h t ws)
+    (y : Derived) (d : Derives (modulus l) (unmarked_if t.flags.over (stored m.store)) (wishes_within ws h.neg h.pos h.lt) y)
+    {before : List ℕ} {len : ℕ} {p' after : List ℕ} (w : Tells m.front y.first y.second (stored_in y.store) m.store t y.sizes before len p' after)
     (xs : List ℕ) (n : length xs ≡ 16) (is : serials_in xs (y.sizes.before + y.sizes.after + y.sizes.long) ≡ members_of y.first (y.sizes.before + y.sizes.after + y.sizes.long))
     (behind : (i : ℕ) → y.sizes.before + y.sizes.after + y.sizes.long ≤ i → word xs i ≡ word m.sets i) where
   abbrev x : Sizes
@@ -270,34 +271,34 @@ module _ (m : Memory) (r : List ℕ) {l : Limits} (h : BeginFields) (t : Start) 
   abbrev fs : Fields
   fs = fields_with h.surface r
 
-  derived : Derives (modulus (limits_at m.front)) (unmarked_if t.flags.over (stored m.store)) (wishes_in ps hs h.neg h.pos h.lt) y
+  derived : Derives (modulus (limits_at m.front)) (unmarked_if t.flags.over (stored m.store)) (wishes_in ws h.neg h.pos h.lt) y
   unfolding front_in
   derived =
-      subst (λ (z : Limits). Derives (modulus z) (unmarked_if t.flags.over (stored m.store)) (wishes_in ps hs h.neg h.pos h.lt) y) q.placed.passed.limits
-      (subst (λ (z : Wishes). Derives (modulus l) (unmarked_if t.flags.over (stored m.store)) z y) (within_room ps hs h.neg h.pos h.lt q.few) d)
+      subst (λ (z : Limits). Derives (modulus z) (unmarked_if t.flags.over (stored m.store)) (wishes_in ws h.neg h.pos h.lt) y) q.placed.passed.limits
+      (subst (λ (z : Wishes). Derives (modulus l) (unmarked_if t.flags.over (stored m.store)) z y) (within_room ws h.neg h.pos h.lt q.few) d)
 
   -- the pictures that step 4 marked
-  marked_is : stored_in y.store ≡ marks_of (modulus (limits_at m.front)) (unmarked_if t.flags.over (stored m.store)) (wishes_in ps hs h.neg h.pos h.lt)
+  marked_is : stored_in y.store ≡ marks_of (modulus (limits_at m.front)) (unmarked_if t.flags.over (stored m.store)) (wishes_in ws h.neg h.pos h.lt)
   marked_is = let k : min y.store.len 16 ≡ y.store.len = omega (arith, d.few) in ap (front y.store.places) k ∙ derived.pics
 
   room_made_lem : before_decoding (t.flags.over && not (flag_of (word m.front ENDED))) t.flags.prior (limits_at m.front) (stored_in y.store) ≡ room_made s fs
   unfolding front_in
-  room_made_lem = room_is s r h t ps hs q (stored_in y.store) marked_is
+  room_made_lem = room_is s r h t ws q (stored_in y.store) marked_is
 
   sets_held : HoldsSets y.first y.second x (sets s fs)
   unfolding front_in
-  sets_held = subst (HoldsSets y.first y.second x) (sets_are s r h t ps hs q) derived.sets
+  sets_held = subst (HoldsSets y.first y.second x) (sets_are s r h t ws q) derived.sets
 
   body_is : begun_part (told_from (word m.front NEXT) t) x y.first y.second ++ tail_bytes (before_decoding (t.flags.over && not (flag_of (word m.front ENDED))) t.flags.prior (limits_at m.front) (stored_in y.store)).tail
       ≡ begun_bytes (begun_of s fs) ++ tail_bytes (room_made s fs).tail
   unfolding front_in
-  body_is = λ i. begun_bytes_lem s r h t ps hs q x sets_held i ++ tail_bytes (room_made_lem i).tail
+  body_is = λ i. begun_bytes_lem s r h t ws q x sets_held i ++ tail_bytes (room_made_lem i).tail
 
-  answers_are : Answers (begun s fs) before a after
+  answers_are : Answers (begun s fs) before (accepts len) after
   unfolding bytes_of
   answers_are =
       record {
-        answer = w.says.answer ∙ (λ i. record { number = 0; len = length (framed (reply_to begin_kind) 0 (body_is i)) });
+        answer = ap accepts w.says.long ∙ (λ i. accepts (length (framed (reply_to begin_kind) 0 (body_is i))));
         bytes = w.says.bytes ∙ (λ i. over (framed (reply_to begin_kind) 0 (body_is i)) before);
       }
 
@@ -309,12 +310,12 @@ module _ (m : Memory) (r : List ℕ) {l : Limits} (h : BeginFields) (t : Start) 
         configured = s.configured;
         limits = s.limits;
         store = (w.pics ∙ ap (λ (z : Moved). z.pics) room_made_lem) i;
-        current = Now.Is (current_is s r h t ps hs q i);
+        current = Some (current_is s r h t ws q i);
         refs = refs_held xs n sets_held is i;
         prev = s.prev;
         at_start = false;
         ended = false;
-        next = next_is s r h t ps hs q i;
+        next = next_is s r h t ws q i;
       }
 
   -- the sizes of the sets, and how many members they have
@@ -326,11 +327,11 @@ module _ (m : Memory) (r : List ℕ) {l : Limits} (h : BeginFields) (t : Start) 
 
   pub begun_does : {h' : List ℕ} {c : Current} {z : Refs} {k : ℕ} → front_in h' ≡ begun_front (front_in m.front) c z k
       → ((f : Front) → m.front ≡ front_words f → h' ≡ front_words (begun_front f c z k)) → c ≡ current_from (word m.front NEXT) h t → z ≡ refs_from x
-      → k ≡ cond (eqb (word m.front NEXT) 4294967295) 0 (word m.front NEXT + 1) → Does m (begin_of s fs) before a (memory h' xs p') after
+      → k ≡ cond (eqb (word m.front NEXT) 4294967295) 0 (word m.front NEXT + 1) → Tries (reply_to begin_kind) m (begin_of s fs) before (Ok len) (memory h' xs p') after
   unfolding front_in
   begun_does e wh ec ey ek =
       let n = ap (λ (f : Front). session_of f xs p') (e ∙ (λ i. begun_front (front_in m.front) (ec i) (ey i) (ek i))) ∙ next_session in
-      as_decided (inside s r q.placed.passed q.within)
+      gives_as (inside s r q.placed.passed q.within)
       (record {
         answers = answers_are;
         next = n;
@@ -338,7 +339,7 @@ module _ (m : Memory) (r : List ℕ) {l : Limits} (h : BeginFields) (t : Start) 
         normal = λ z.
             record {
               front = wh (front_of s) z.front
-                  ∙ (λ i. front_words (begun_front (front_of s) ((ec ∙ current_is s r h t ps hs q) i) ((ey ∙ sizes_are) i) ((ek ∙ next_is s r h t ps hs q) i))) ∙ ap Laid.front_words_of (sym n);
+                  ∙ (λ i. front_words (begun_front (front_of s) ((ec ∙ current_is s r h t ws q) i) ((ey ∙ sizes_are) i) ((ek ∙ next_is s r h t ws q) i))) ∙ ap Laid.front_words_of (sym n);
               store = w.normal z.store;
             };
         sets = λ i le. behind i (omega (arith, members_are_all));
@@ -350,43 +351,43 @@ pub fits_back : (z : ℤ) → in32 z ≡ true → to_z w32 (of_z w32 z) ≡ z
 fits_back z e = to_z-of_z {w = w32} (record { sfits = ltb-true (mag z) (2 ^ 31) e })
 
 -- the wishes that were read are the paper's, or one is outside as the paper's is
-module _ (s : Session) (r : List ℕ) {l : Limits} (h : BeginFields) (t : Start) (p : Placed s r l h t) {b : Bool} {ps : List ℤ} {hs : List ℕ}
-    (k : HoldsWishes (wishes_of (modulus l) (to_z w32 (of_z w32 t.poc)) (fields_with h.surface r)) h.neg h.pos h.lt b ps hs) where
-  asked_is : HoldsWishes (wishes s (fields_with h.surface r)) h.neg h.pos h.lt b ps hs
+module _ (s : Session) (r : List ℕ) {l : Limits} (h : BeginFields) (t : Start) (p : Placed s r l h t) {b : Result (Unit {0}) Outside} {ws : List Wish}
+    (k : HoldsWishes (wishes_of (modulus l) (to_z w32 (of_z w32 t.poc)) (fields_with h.surface r)) h.neg h.pos h.lt b ws) where
+  asked_is : HoldsWishes (wishes s (fields_with h.surface r)) h.neg h.pos h.lt b ws
   asked_is =
       let z : to_z w32 (of_z w32 t.poc) ≡ poc s (fields_with h.surface r) = fits_back t.poc (right (in32 t.msb) (in32 t.poc) p.inside) ∙ p.poc in
-      subst (λ (w : Wishes). HoldsWishes w h.neg h.pos h.lt b ps hs) (λ i. wishes_of (modulus (p.passed.limits i)) (z i) (fields_with h.surface r)) k
+      subst (λ (w : Wishes). HoldsWishes w h.neg h.pos h.lt b ws) (λ i. wishes_of (modulus (p.passed.limits i)) (z i) (fields_with h.surface r)) k
 
-  within_is : within s (fields_with h.surface r) ≡ b
+  within_is : within s (fields_with h.surface r) ≡ all_inside b
   unfolding within
   within_is =
       let m : (in32 (msb s (fields_with h.surface r)) && in32 (poc s (fields_with h.surface r))) ≡ true = sym (λ i. in32 (p.msb i) && in32 (p.poc i)) ∙ p.inside in
       rw m (sym asked_is.inside)
 
-  pub wishes_outside : not b ≡ true → within s (fields_with h.surface r) ≡ false
-  wishes_outside n = within_is ∙ not-true b n
+  pub wishes_outside : all_inside b ≡ false → within s (fields_with h.surface r) ≡ false
+  wishes_outside n = within_is ∙ n
 
-  pub wished : not b ≡ false → Wished s r l h t ps hs
-  wished n = record { placed = p; within = within_is ∙ not-false b n; few = few_of p; wishes = asked_is.items (not-false b n) }
+  pub wished : all_inside b ≡ true → Wished s r l h t ws
+  wished n = record { placed = p; within = within_is ∙ n; few = few_of p; wishes = asked_is.items n }
 
 -- what steps 1 and 2 read and computed
-pub record Counted (s : Session) (h : BeginFields) (k : Flags) (x : Poc) : Type 0 where
+pub record Counted (s : Session) (h : BeginFields) (k : Flags) (x : Result Poc Outside) : Type 0 where
   pub flags : k ≡ flags_from s.at_start s.ended h
   pub poc : x ≡ poc_answer (modulus s.limits) (prev_from k.over s.prev) h.lsb
 
 -- the POC that was derived is the paper's, or outside as the paper's is
-module _ {s : Session} {r : List ℕ} {l : Limits} {h : BeginFields} {k : Flags} {x : Poc} (w : Passed s r l h) (o : Counted s h k x) where
+module _ {s : Session} {r : List ℕ} {l : Limits} {h : BeginFields} {k : Flags} {x : Result Poc Outside} (w : Passed s r l h) (o : Counted s h k x) where
   answer_is : x ≡ poc_answer (modulus s.limits) (prev_now s h.surface r) (begin_fields r).lsb
   answer_is =
       let f : k ≡ flags_now s h.surface r = o.flags ∙ ap (flags_from s.at_start s.ended) w.fields in
       o.poc ∙ (λ i. poc_answer (modulus s.limits) (prev_from (f i).over s.prev) (w.fields i).lsb)
 
-  pub no_poc : x ≡ A.Outside → within s (fields_with h.surface r) ≡ false
-  no_poc e = poc_outside s h.surface r (sym (λ i. in32 (msb_is s h.surface r i) && in32 (poc_is s h.surface r i)) ∙ poc_out (modulus s.limits) (prev_now s h.surface r) (begin_fields r).lsb (sym answer_is ∙ e))
+  pub no_poc : (e : Outside) → x ≡ Err e → within s (fields_with h.surface r) ≡ false
+  no_poc o e = poc_outside s h.surface r (sym (λ i. in32 (msb_is s h.surface r i) && in32 (poc_is s h.surface r i)) ∙ poc_out (modulus s.limits) (prev_now s h.surface r) (begin_fields r).lsb (sym answer_is ∙ e))
 
-  placed_at : (m p : ℤ) → x ≡ A.Val m p → Placed s r l h (record { flags = k; msb = m; poc = p })
-  placed_at m p e =
-      let v = poc_val (modulus s.limits) (prev_now s h.surface r) (begin_fields r).lsb m p (sym answer_is ∙ e) in
+  placed_at : (y : Poc) → x ≡ Ok y → Placed s r l h (record { flags = k; msb = y.msb; poc = y.poc })
+  placed_at y e =
+      let v = poc_val (modulus s.limits) (prev_now s h.surface r) (begin_fields r).lsb y (sym answer_is ∙ e) in
       record {
         passed = w;
         flags = o.flags;
@@ -396,8 +397,8 @@ module _ {s : Session} {r : List ℕ} {l : Limits} {h : BeginFields} {k : Flags}
       }
 
   -- as the code passes them on
-  pub placed : (m p : ℤ) → x ≡ A.Val m p → Placed s r l h (record { flags = k; msb = to_z w32 (of_z w32 m); poc = to_z w32 (of_z w32 p) })
-  placed m p e =
-      let v = placed_at m p e in
-      subst (λ (y : ℤ). Placed s r l h (record { flags = k; msb = y; poc = to_z w32 (of_z w32 p) })) (sym (fits_back m (left (in32 m) (in32 p) v.inside)))
-      (subst (λ (y : ℤ). Placed s r l h (record { flags = k; msb = m; poc = y })) (sym (fits_back p (right (in32 m) (in32 p) v.inside))) v)
+  pub placed : (p : Poc) → x ≡ Ok p → Placed s r l h (record { flags = k; msb = to_z w32 (of_z w32 p.msb); poc = to_z w32 (of_z w32 p.poc) })
+  placed p e =
+      let v = placed_at p e in
+      subst (λ (y : ℤ). Placed s r l h (record { flags = k; msb = y; poc = to_z w32 (of_z w32 p.poc) })) (sym (fits_back p.msb (left (in32 p.msb) (in32 p.poc) v.inside)))
+      (subst (λ (y : ℤ). Placed s r l h (record { flags = k; msb = p.msb; poc = y })) (sym (fits_back p.poc (right (in32 p.msb) (in32 p.poc) v.inside))) v)

@@ -1,13 +1,14 @@
 -- The bytes of a reply: runs of entries one after the other, the head that is written last, and the room of a tail and
 -- of the sets.
-use Prim.Native.Nat.{ℕ, zero, suc, ◌+◌, ◌*◌, ◌-◌, ◌≤◌}
+use Prim.Native.Nat.{ℕ, zero, suc, ◌+◌, ◌*◌, ◌-◌, ◌≤◌, ◌<◌}
 use mathlib.Core.Path.{◌≡◌, refl, sym, ap, ◌∙◌}
 use mathlib.Core.Bool.{false}
 use mathlib.Core.List.{List, [], ◌∷◌, ◌++◌, map, map-append, append-nil}
 use native.Mathlib.Omega.{arith}
 use lib.Dec.{eqb}
-use lib.ListN.{length, get_or, take, length-append, length-map}
-use lib.Seq.{sets, take-suc}
+use lib.ListN.{length, get_or, take, drop, length-append, length-map, length-drop}
+use lib.Seq.{sets, take-suc, take_all}
+use Rattle.std.proofs.lemmas.List.{take_more, length-take-le, get_or-drop}
 use Rattle.paper.specs.Words.{flat, table}
 use Rattle.paper.specs.declared.Serial.{Serial}
 use Rattle.paper.specs.declared.Surface.{Surface}
@@ -31,8 +32,7 @@ use Rattle.session.specs.Numbered.{number_of}
 use Rattle.session.specs.Said.{Says, Refuses}
 use Rattle.store.specs.Tails.{tail_in, GoodTail}
 use Rattle.session.specs.Written.{FewMembers, Listable, told_bytes, numbers_from, member_bytes, list_in}
-use Rattle.derivation.proofs.Pad.{is_long}
-use Rattle.store.proofs.StoreWords.{table_more, table_map, table_same}
+use Rattle.store.proofs.StoreWords.{table_map, table_same}
 
 -- a refusal's number is not that of acceptance
 pub refusal_number : (r : Refusal) → eqb (number_of r) 0 ≡ false
@@ -74,31 +74,44 @@ run d at xs e w = (w.0 ∙ ap (λ (k : ℕ). at + k) (sym e), w.1)
 pub run_on : {r1 r2 : ℕ} {d1 d2 : List ℕ} (d : List ℕ) (at : ℕ) (xs ys : List ℕ) → Run d at xs r1 d1 → Run d1 r1 ys r2 d2 → Run d at (xs ++ ys) r2 d2
 run_on d at xs ys v w = (simp length-append (omega arith), runs d xs ys at _ v.1 w.1 (sym v.0))
 
--- entries one after the other, of the first i of a table: what a loop that writes them has laid, from a place on
-pub record Laid {A : Type 0} (f : A → List ℕ) (g : ℕ → A) (before : List ℕ) (at i : ℕ) (after : List ℕ) : Type 0 where
+-- entries of k bytes each, one after the other, of the first i of a list: what a loop that writes them has laid from a
+-- place on, and where it ends
+pub record Written {A : Type 0} (f : A → List ℕ) (k : ℕ) (xs : List A) (before : List ℕ) (at i end : ℕ) (after : List ℕ) : Type 0 where
   pub long : length after ≡ length before
-  pub bytes : after ≡ sets before at (flat f (table g i))
+  pub ends : end ≡ at + k * i
+  pub bytes : after ≡ sets before at (flat f (take i xs))
 
-module _ {A : Type 0} (f : A → List ℕ) (g : ℕ → A) where
-  pub laid_none : (d : List ℕ) (at : ℕ) → Laid f g d at 0 d
-  unfolding table flat
-  laid_none d at = record { long = refl; bytes = refl }
-
-  flat_table_more : (i : ℕ) → flat f (table g (i + 1)) ≡ flat f (table g i) ++ f (g i)
+module _ {A : Type 0} (f : A → List ℕ) (k : ℕ) (each : (x : A) → length (f x) ≡ k) where
+  pub written_none : (xs : List A) (d : List ℕ) (at : ℕ) → Written f k xs d at 0 at d
   unfolding flat
-  flat_table_more i = ap (flat f) (table_more g i) ∙ flat_append f (table g i) (g i ∷ []) ∙ ap (λ (l : List ℕ). flat f (table g i) ++ l) (append-nil (f (g i)))
+  written_none xs d at = record { long = refl; ends = omega arith; bytes = refl }
 
-  -- k bytes each
-  module _ (k : ℕ) (e : (x : A) → length (f x) ≡ k) where
-    pub length_entries : (n : ℕ) → length (flat f (table g n)) ≡ k * n
-    length_entries n = length_flat f k e (table g n) ∙ ap (λ (m : ℕ). k * m) (table_length g n)
+  pub written_more : {xs : List A} {d d1 d2 : List ℕ} {at i end end' : ℕ} (x y : A) → Written f k xs d at i end d1 → i < length xs → x ≡ get_or xs i y → (end' ≡ end + k) × (d2 ≡ sets d1 end (f x)) → length d2 ≡ length d1
+      → Written f k xs d at (i + 1) end' d2
+  unfolding flat
+  written_more {xs} {d} {at = at} {i = i} x y w lt is e l =
+      let more : take (i + 1) xs ≡ take i xs ++ (x ∷ []) = take_more xs i y lt ∙ ap (λ (z : A). take i xs ++ (z ∷ [])) (sym is) in
+      let long : length (flat f (take i xs)) ≡ k * i = length_flat f k each (take i xs) ∙ ap (λ (n : ℕ). k * n) (length-take-le i xs (omega arith)) in
+      record {
+        long = l ∙ w.long;
+        ends = let a = w.ends in let b = e.0 in omega arith;
+        bytes = runs d (flat f (take i xs)) (f x) at _ w.bytes e.1 (sym (w.ends ∙ ap (λ (n : ℕ). at + n) (sym long)))
+            ∙ ap (sets d at) (sym (ap (flat f) more ∙ flat_append f (take i xs) (x ∷ []) ∙ ap (λ (l : List ℕ). flat f (take i xs) ++ l) (append-nil (f x))));
+      }
 
-    pub laid_more : {d1 d2 : List ℕ} (d : List ℕ) (at i : ℕ) → Laid f g d at i d1 → length d2 ≡ length d1 → d2 ≡ sets d1 (at + k * i) (f (g i)) → Laid f g d at (i + 1) d2
-    laid_more d at i w l e2 =
-        record {
-          long = l ∙ w.long;
-          bytes = runs d (flat f (table g i)) (f (g i)) at (at + k * i) w.bytes e2 (ap (λ (n : ℕ). at + n) (length_entries i)) ∙ ap (sets d at) (sym (flat_table_more i));
-        }
+  -- all of them
+  pub written_all : {xs : List A} {d d1 : List ℕ} {at i end : ℕ} → Written f k xs d at i end d1 → i ≡ length xs → (end ≡ at + k * length xs) × (d1 ≡ sets d at (flat f xs))
+  written_all {xs} {d} {at = at} {i = i} w e = (w.ends ∙ ap (λ (n : ℕ). at + k * n) e, w.bytes ∙ ap (λ (l : List A). sets d at (flat f l)) (ap (λ (n : ℕ). take n xs) e ∙ take_all (length xs) xs (omega arith)))
+
+-- the numbers of a list's elements
+pub words_of : {A : Type 0} (f : A → ℕ) (xs : List A) → words (map f xs) ≡ flat (λ (x : A). bytes32 (f x)) xs
+unfolding words flat
+words_of f [] = refl
+words_of f (x ∷ xs) = ap (λ (l : List ℕ). bytes32 (f x) ++ l) (words_of f xs)
+
+-- the length of a table's entries of k bytes each
+pub length_entries : {A : Type 0} (f : A → List ℕ) (g : ℕ → A) (k : ℕ) → ((x : A) → length (f x) ≡ k) → (n : ℕ) → length (flat f (table g n)) ≡ k * n
+length_entries f g k e n = length_flat f k e (table g n) ∙ ap (λ (m : ℕ). k * m) (table_length g n)
 
 -- u32 entries: the numbers of a table's elements
 pub words_table : {A : Type 0} (f : A → ℕ) (g : ℕ → A) (n : ℕ) → words (map f (table g n)) ≡ flat bytes32 (table (λ (i : ℕ). f (g i)) n)
@@ -108,6 +121,10 @@ words_table f g n = ap (flat bytes32) (table_map f g n)
 pub words_join : {A : Type 0} (f : A → ℕ) (xs ys : List A) → words (map f (xs ++ ys)) ≡ words (map f xs) ++ words (map f ys)
 unfolding words
 words_join f xs ys = ap words (map-append f xs ys) ∙ flat_append bytes32 (map f xs) (map f ys)
+
+pub length_words : {A : Type 0} (f : A → ℕ) (xs : List A) → length (words (map f xs)) ≡ 4 * length xs
+unfolding words
+length_words f xs = length_flat bytes32 4 length_bytes32 (map f xs) ∙ ap (λ (j : ℕ). 4 * j) (length-map xs f)
 
 -- numbers of a run, from a place on
 pub length_numbers : (xs : List Serial) (from n : ℕ) → length (words (numbers_from xs from n)) ≡ 4 * n
@@ -120,16 +137,30 @@ unfolding table
 take_table d xs zero h = refl
 take_table d xs (suc n) h = take-suc xs n d (omega arith) ∙ ap (λ (l : List _). l ++ (get_or xs n d ∷ [])) (take_table d xs n (omega arith))
 
-pub words_front : {A : Type 0} (f : A → ℕ) (d : A) (xs : List A) (n : ℕ) → n ≤ length xs → words (map f (take n xs)) ≡ flat bytes32 (table (λ (i : ℕ). f (get_or xs i d)) n)
-words_front f d xs n h = ap (λ (l : List _). words (map f l)) (take_table d xs n h) ∙ words_table f (λ (i : ℕ). get_or xs i d) n
+-- and those of serials: those that stand in a run from its start, and from a place on
+abbrev num : Serial → ℕ
+num x = x.0
 
--- and those of serials, as the numbers of a run from its start
-numbers_first : (xs : List Serial) (n : ℕ) → n ≤ length xs → words (serial_nos (take n xs)) ≡ words (numbers_from xs 0 n)
+part_table : (xs : List Serial) (from n : ℕ) → from + n ≤ length xs → take n (drop from xs) ≡ table (λ (i : ℕ). get_or xs (from + i) blank_serial) n
+part_table xs from n h =
+    take_table blank_serial (drop from xs) n (omega (arith, length-drop from xs))
+    ∙ table_same (λ (i : ℕ). get_or (drop from xs) i blank_serial) (λ (i : ℕ). get_or xs (from + i) blank_serial) n (λ i l. get_or-drop from xs i blank_serial)
+
+part_numbers : (xs : List Serial) (from n : ℕ) → from + n ≤ length xs → words (map num (take n (drop from xs))) ≡ words (numbers_from xs from n)
 unfolding words
-numbers_first xs n h =
-    let g : ℕ → ℕ = λ i. (get_or xs i blank_serial).0 in
-    let z : (i : ℕ) → 0 + i ≡ i = λ i. omega arith in
-    words_front (λ (s : Serial). s.0) blank_serial xs n h ∙ ap (flat bytes32) (sym (table_same (λ (i : ℕ). g (0 + i)) g n (λ i l. ap g (z i))))
+part_numbers xs from n h = ap (λ (l : List Serial). words (map num l)) (part_table xs from n h) ∙ words_table num (λ (i : ℕ). get_or xs (from + i) blank_serial) n
+
+module _ {r : ℕ} {d' : List ℕ} (d : List ℕ) (at : ℕ) (xs : List Serial) where
+  pub run_part : (from n : ℕ) → from + n ≤ length xs → (r ≡ at + 4 * length (take (from + n - from) (drop from xs))) × (d' ≡ sets d at (words (map num (take (from + n - from) (drop from xs)))))
+      → Run d at (words (numbers_from xs from n)) r d'
+  run_part from n h e =
+      let k : from + n - from ≡ n = omega arith in
+      let l : length (take n (drop from xs)) ≡ n = length-take-le n (drop from xs) (omega (arith, length-drop from xs)) in
+      let w = rw (k, l, part_numbers xs from n h) at e in
+      run d at (words (numbers_from xs from n)) (length_numbers xs from n) w
+
+  pub run_first : (n : ℕ) → n ≤ length xs → (r ≡ at + 4 * length (take n xs)) × (d' ≡ sets d at (words (map num (take n xs)))) → Run d at (words (numbers_from xs 0 n)) r d'
+  run_first n h e = run_part 0 n (omega arith) (let k : 0 + n - 0 ≡ n = omega arith in rw k e)
 
 -- an array that holds its own elements: how many, and the lengths of their entries
 module _ {A : Type 0} {n m : ℕ} {d : A} {a : List A} (h : Padded n d a m (used m a)) where
@@ -146,12 +177,12 @@ module _ {A : Type 0} {n m : ℕ} {d : A} {a : List A} (h : Padded n d a m (used
 
 -- a body from 6 on, then the head
 pub framed_last : {n r : ℕ} {d1 d2 : List ℕ} (d b : List ℕ) (kind : ℕ) → Run d 6 b n d1 → n ≤ length d → Run d1 0 (bytes16 (n - 4) ++ bytes16 kind ++ bytes16 0) r d2
-    → Says (framed kind 0 b) d (record { number = 0; len = n }) d2
+    → Says (framed kind 0 b) d n d2
 framed_last {n = n} {d1 = d1} d b kind v h w =
     let k : n - 4 ≡ 2 + length b = omega arith in
     let l : n ≡ length (framed kind 0 b) = omega arith in
     record {
-      answer = ap (λ (m : ℕ). record { number = 0; len = m }) l;
+      long = l;
       bytes = head_last d (bytes16 (2 + length b) ++ bytes16 kind ++ bytes16 0) b 6 refl v.1 (w.1 ∙ ap (λ (x : ℕ). sets d1 0 (bytes16 x ++ bytes16 kind ++ bytes16 0)) k)
           ∙ sets_over (framed kind 0 b) d (omega arith);
     }
@@ -189,10 +220,7 @@ members_room x us vs f =
     simp length-append (omega arith)
 
 -- the serials of two lists, one behind the other
-pub listed : (x y : RefList) → Listable x → Listable y → bytes_of (Listed (list_in x) (list_in y)) ≡ framed (reply_to lists_kind) 0 ((x.len ∷ y.len ∷ words (numbers_from x.items 0 x.len)) ++ words (numbers_from y.items 0 y.len))
+pub listed : (x y : RefList) → Listable x → Listable y
+    → bytes_of (Listed (list_in x) (list_in y)) ≡ framed (reply_to lists_kind) 0 ((x.len ∷ y.len ∷ words (serial_nos (take x.len x.items))) ++ words (serial_nos (take y.len y.items)))
 unfolding bytes_of used
-listed x y h k =
-    let e = words_join (λ (s : Serial). s.0) (take x.len x.items) (take y.len y.items) in
-    let a = numbers_first x.items x.len (omega (arith, is_long h.holds, h.holds.room)) in
-    let b = numbers_first y.items y.len (omega (arith, is_long k.holds, k.holds.room)) in
-    rw (held_long h.holds, held_long k.holds, e, a, b)
+listed x y h k = rw (held_long h.holds, held_long k.holds, words_join num (take x.len x.items) (take y.len y.items))

@@ -5,9 +5,8 @@ use mathlib.Core.List.{List, [], ◌∷◌, ◌++◌}
 use Prim.Native.Nat.{ℕ, zero, suc, ◌+◌, ◌*◌, ◌<◌, ◌≤◌}
 use native.Mathlib.Omega.{arith}
 use native.Mathlib.Numerals.{add-one}
-use borrow.Author.Tests.{ltb-true, ltb-false, leb-true, not-true, not-false}
-use lib.IntN.{ℤ, pos, negsuc}
-use lib.Signed.{lt_z, le_z}
+use borrow.Author.Tests.{ltb-true, ltb-false, leb-true}
+use lib.IntN.{ℤ, pos}
 use lib.Dec.{ltb, leb, eqb}
 use Rattle.paper.specs.declared.ShortEntry.{ShortEntry}
 use Rattle.paper.specs.Words.{all_b, table}
@@ -22,6 +21,7 @@ use Rattle.derivation.specs.FieldRanges.{field_ranges}
 use Rattle.derivation.proofs.Splitting.{ranges_split}
 use Rattle.format.specs.declared.records.BeginFields.{BeginFields}
 use Rattle.format.specs.Reads.{begin_fields}
+use Rattle.session.specs.Runs.{Runs}
 use Rattle.session.specs.Target.{fields_with, begin_with}
 
 -- ---- tests of a run of entries
@@ -72,25 +72,6 @@ pub last_table : (d : ℤ) (f : ℕ → ShortEntry) (i : ℕ) → last_of d (tab
 unfolding table
 last_table d f i = rw (add-one i) (last_more d (table f i) (f i))
 
--- a run of short-term entries, each tested against the delta before it
-pub record Runs (t : ℤ → ShortEntry → Bool) (g : ℤ → List ShortEntry → Bool) : Type 0 where
-  pub none : (d : ℤ) → g d [] ≡ true
-  pub more : (d : ℤ) (e : ShortEntry) (es : List ShortEntry) → g d (e ∷ es) ≡ (t d e && g e.delta es)
-
-abbrev pub falls_at : ℤ → ShortEntry → Bool
-falls_at d e = le_z (negsuc 524287) e.delta && lt_z e.delta d && ltb e.used 2
-
-abbrev pub rises_at : ℤ → ShortEntry → Bool
-rises_at d e = le_z e.delta (pos 524288) && lt_z d e.delta && ltb e.used 2
-
-pub falls : Runs falls_at falling
-unfolding falling
-falls = record { none = λ d. refl; more = λ d e es. refl }
-
-pub rises : Runs rises_at rising
-unfolding rising
-rises = record { none = λ d. refl; more = λ d e es. refl }
-
 module _ {t : ℤ → ShortEntry → Bool} {g : ℤ → List ShortEntry → Bool} (r : Runs t g) where
   run_more : (d : ℤ) (xs : List ShortEntry) (e : ShortEntry) → g d (xs ++ (e ∷ [])) ≡ (g d xs && t (last_of d xs) e)
   unfolding last_of
@@ -110,15 +91,15 @@ module _ {t : ℤ → ShortEntry → Bool} {g : ℤ → List ShortEntry → Bool
     tested = rw (is, last, at)
 
     -- one entry more in range, and one out of it
-    pub run_on : not b ≡ false → g (pos 0) (table f i) ≡ true → (e.delta ≡ last_of (pos 0) (table f (i + 1))) × (g (pos 0) (table f (i + 1)) ≡ true)
+    pub run_on : b ≡ true → g (pos 0) (table f i) ≡ true → (e.delta ≡ last_of (pos 0) (table f (i + 1))) × (g (pos 0) (table f (i + 1)) ≡ true)
     run_on up h = (
       rw (at, last_table (pos 0) f i),
-      goes_on (λ (j : ℕ). g (pos 0) (table f j)) (λ (j : ℕ). t (last_of (pos 0) (table f j)) (f j)) (run_table (pos 0) f) i h (sym tested ∙ not-false b up),
+      goes_on (λ (j : ℕ). g (pos 0) (table f j)) (λ (j : ℕ). t (last_of (pos 0) (table f j)) (f j)) (run_table (pos 0) f) i h (sym tested ∙ up),
     )
 
-    pub run_out : (n : ℕ) → i < n → not b ≡ true → false ≡ g (pos 0) (table f n)
+    pub run_out : (n : ℕ) → i < n → b ≡ false → false ≡ g (pos 0) (table f n)
     run_out n lt down =
-        sym (stops (λ (j : ℕ). g (pos 0) (table f j)) (λ (j : ℕ). t (last_of (pos 0) (table f j)) (f j)) (run_table (pos 0) f) i n lt (sym tested ∙ not-true b down))
+        sym (stops (λ (j : ℕ). g (pos 0) (table f j)) (λ (j : ℕ). t (last_of (pos 0) (table f j)) (f j)) (run_table (pos 0) f) i n lt (sym tested ∙ down))
 
 -- ---- the ranges of a begin
 abbrev pub fields_in : ℕ → BeginFields → Bool
@@ -154,14 +135,14 @@ fields_few M nal tid flags lsb n e =
     (left (taken nal && leb tid 6 && (not (irap nal) || eqb tid 0) && ltb flags 4 && ltb lsb M && leb n 16) (not (idr nal) || (eqb lsb 0 && eqb n 0)) e))
 
 module _ (M : ℕ) (r : List ℕ) {h : BeginFields} {b : Bool} (read : h ≡ begin_with h.surface r) (is : b ≡ fields_in M h) where
-  pub begin_out : not b ≡ true → false ≡ begin_ranges M (fields_with h.surface r)
+  pub begin_out : b ≡ false → false ≡ begin_ranges M (fields_with h.surface r)
   begin_out e =
-      let k : fields_in M (begin_fields r) ≡ false = sym (ap (fields_in M) read) ∙ sym is ∙ not-true b e in
+      let k : fields_in M (begin_fields r) ≡ false = sym (ap (fields_in M) read) ∙ sym is ∙ e in
       sym (in_parts M h.surface r ∙ ap (λ (x : Bool). x && (longs_in M r (begin_fields r) && (neg_in r (begin_fields r) && pos_in r (begin_fields r)))) k)
 
-  module _ (e : not b ≡ false) where
+  module _ (e : b ≡ true) where
     fields_in_lem : fields_in M h ≡ true
-    fields_in_lem = sym is ∙ not-false b e
+    fields_in_lem = sym is ∙ e
 
     pub begin_few : h.neg + h.pos + h.lt ≤ 16
     begin_few = fields_few M h.nal h.tid h.flags h.lsb (h.neg + h.pos + h.lt) fields_in_lem

@@ -16,14 +16,14 @@ use Rattle.paper.specs.Words.{table}
 use Rattle.paper.specs.State.{is_current}
 use Rattle.paper.specs.declared.Limits.{Limits}
 use Rattle.paper.specs.declared.Current.{Current}
-use Rattle.paper.specs.declared.Prev.TheVariants as Prev
-use Rattle.paper.specs.declared.Now.TheVariants as Now
 use Rattle.derivation.specs.declared.ref_lists.Refs.{Refs}
 use Rattle.store.specs.StoreWords.{word, flag_of, flag_word}
 use Rattle.session.specs.FrontPlaces.{CONFIGURED, FIRST, ENDED, K, PREV, CURRENT}
 use Rattle.session.specs.View.{current_at, now_at, Front, front_in, idle_front, configured_front, begun_front, ended_front}
 use Rattle.session.specs.Laid.{front_words}
 use Rattle.store.proofs.StoreWords.{flag_back}
+use Rattle.std.proofs.Common.{None, Some}
+use Rattle.paper.specs.Poc.{tid0}
 
 -- words, one by one
 first_words : (h : List ℕ) (n : ℕ) → n ≤ length h → table (word h) n ≡ take n h
@@ -58,13 +58,13 @@ module _ (h : List ℕ) (long : length h ≡ 23) where
   front_by : (w : List ℕ → List ℕ) (g : Front → Front) → front_in (w (table (word h) 23)) ≡ g (front_in (table (word h) 23)) → front_in (w h) ≡ g (front_in h)
   front_by w g e = subst (λ (l : List ℕ). front_in (w l) ≡ g (front_in l)) (whole_words h long) e
 
-  pub front_none : front_in (none_words h) ≡ idle_front (front_in h) Prev.Nothing
+  pub front_none : front_in (none_words h) ≡ idle_front (front_in h) None
   unfolding front_in table
-  front_none = front_by none_words (λ (f : Front). idle_front f Prev.Nothing) refl
+  front_none = front_by none_words (λ (f : Front). idle_front f None) refl
 
-  pub front_tid0 : (lsb : ℕ) (msb : ℤ) → Fits w16 lsb → SFits w32 msb → front_in (tid0_words lsb msb h) ≡ idle_front (front_in h) (Prev.Tid0 lsb msb)
+  pub front_tid0 : (lsb : ℕ) (msb : ℤ) → Fits w16 lsb → SFits w32 msb → front_in (tid0_words lsb msb h) ≡ idle_front (front_in h) (tid0 lsb msb)
   unfolding front_in table
-  front_tid0 lsb msb a b = front_by (tid0_words lsb msb) (λ (f : Front). idle_front f (Prev.Tid0 lsb msb)) (rw (mod-eq_of_lt a.fits, to_z-of_z w32 msb b))
+  front_tid0 lsb msb a b = front_by (tid0_words lsb msb) (λ (f : Front). idle_front f (tid0 lsb msb)) (rw (mod-eq_of_lt a.fits, to_z-of_z w32 msb b))
 
   pub front_limits : (l : Limits) → Fits w8 l.k → Fits w8 l.capacity → Fits w8 l.buffering → Fits w8 l.reorder → Fits w16 l.latency
       → front_in (limit_words l h) ≡ configured_front (front_in h) l
@@ -86,11 +86,11 @@ module _ (h : List ℕ) (long : length h ≡ 23) where
 
 -- words that are what some session is written as are so after each kind of write
 module _ (h : List ℕ) (f : Front) (e : h ≡ front_words f) where
-  pub words_none : none_words h ≡ front_words (idle_front f Prev.Nothing)
+  pub words_none : none_words h ≡ front_words (idle_front f None)
   unfolding front_words
   words_none = ap none_words e
 
-  pub words_tid0 : (lsb : ℕ) (msb : ℤ) → tid0_words lsb msb h ≡ front_words (idle_front f (Prev.Tid0 lsb msb))
+  pub words_tid0 : (lsb : ℕ) (msb : ℤ) → tid0_words lsb msb h ≡ front_words (idle_front f (tid0 lsb msb))
   unfolding front_words
   words_tid0 lsb msb = ap (tid0_words lsb msb) e
 
@@ -110,6 +110,6 @@ module _ (h : List ℕ) (f : Front) (e : h ≡ front_words f) where
 pub is_now : (h : List ℕ) → is_current (now_at h) ≡ flag_of (word h CURRENT)
 is_now h = go (flag_of (word h CURRENT))
   where
-    go : (b : Bool) → is_current (cond b (Now.Is (current_at h)) Now.Idle) ≡ b
+    go : (b : Bool) → is_current (cond b (Some (current_at h)) None) ≡ b
     go true = refl
     go false = refl

@@ -1,7 +1,7 @@
 -- Lists records: the entry bytes are parts of the record, each way out of the order of refusals is one law, and what is
 -- accepted is ready to be listed.
 use Prim.Native.Nat.{ℕ, zero, suc, ◌+◌, ◌-◌, ◌≤◌, ◌<◌, max}
-use mathlib.Core.Path.{◌≡◌, refl, sym, ap, ap₂, ◌∙◌}
+use mathlib.Core.Path.{◌≡◌, refl, sym, ap, ap₂, ◌∙◌, subst}
 use mathlib.Core.List.{List, [], ◌∷◌}
 use mathlib.Core.Bool.{Bool, true, false, cond, not, ◌&&◌, ◌||◌}
 use native.Mathlib.Omega.{arith}
@@ -11,7 +11,6 @@ use lib.Seq.{take-suc, get_or-drop}
 use borrow.Author.Tests.{eqb-true, eqb-false, lt-ltb, leb-true}
 use Rattle.paper.specs.declared.Serial.{Serial}
 use Rattle.paper.specs.declared.Current.{Current}
-use Rattle.paper.specs.declared.Now.{Now}
 use Rattle.paper.specs.Words.{◌gives◌, first, any_b, table}
 use Rattle.paper.specs.Numbers.{u8, bit}
 use Rattle.paper.specs.Kinds.{lists_kind, reply_to}
@@ -22,26 +21,24 @@ use Rattle.paper.specs.RefLists.{candidates0, candidates1, list0, list1, no_cand
 use Rattle.paper.specs.Replies.{bytes_of}
 use Rattle.paper.specs.Replies.Reply.{Listed}
 use Rattle.paper.specs.Step.{refused, lists_refusal, lists_at, lists_of}
-use Rattle.paper.proofs.Bools.{left, right}
+use Rattle.paper.proofs.Bools.{left, right, split}
 use Rattle.paper.proofs.Ways.{first_none, yes_of}
 use Rattle.paper.proofs.Fits.{table_length}
 use Rattle.derivation.specs.declared.ref_lists.RefList.{RefList}
-use Rattle.derivation.specs.Lists.{no_list, candidates_of, list_of, built_of, CandidateCount, Ready, HoldsList}
+use Rattle.derivation.specs.Lists.{candidates_of, list_of, built_of, CandidateCount, Ready, HoldsList}
 use Rattle.derivation.proofs.Pad.{is_view, is_good}
-use Rattle.derivation.proofs.Runs.{none_held}
 use Rattle.derivation.proofs.Instances.{list0_is, list1_is, built_is, candidates_0, candidates_1}
-use Rattle.session.specs.declared.Answer.{Answer}
 use Rattle.session.specs.declared.Refusal.{Refusal}
+use Rattle.session.specs.declared.Refusal.TheVariants.{NoCurrent}
 use Rattle.format.specs.declared.records.Ask.{Ask}
 use Rattle.format.specs.declared.records.SliceFields.{SliceFields}
-use Rattle.session.specs.declared.lists.Verdict.{Verdict}
-use Rattle.session.specs.declared.lists.Verdict.TheVariants.{Fine, No}
 use Rattle.session.specs.Numbered.{number_of}
-use Rattle.session.specs.Said.{Says, Refuses, Answers, WellFormed}
+use Rattle.session.specs.Said.{accepts, Says, Gives, WellFormed}
 use Rattle.session.proofs.Bytes.{refusal_number}
 use Rattle.format.specs.Reads.{AsksAs, ReadsAs}
-use Rattle.session.specs.Slices.{number_in, lists_number}
+use Rattle.session.specs.Slices.{lists_number}
 use Rattle.session.specs.Written.{list_in, Listable}
+use Rattle.std.proofs.Common.{Option, Result, Ok, Err}
 
 -- ---- the entry bytes
 
@@ -253,64 +250,64 @@ module _ {x : Refs} {c : Serial} {a : Ask} {own : Bool} {es : List ℕ} (r : Lis
 
 -- ---- the two lists
 
-module _ (x : Refs) (c : Serial) (f : Slice) (l : RefList) {a : Ask} where
-  pub unused_0 : AsksAs a f.ask0 → a.uses ≡ false → l ≡ no_list → HoldsList l (list0 x c f)
-  unfolding list0
-  unused_0 p u e = let v : f.ask0.uses ≡ false = sym p.uses ∙ u in none_held l (list0 x c f) e (rw v)
+empty_0 : (x : Refs) (c : Serial) (f : Slice) → f.ask0.uses ≡ false → list0 x c f ≡ []
+unfolding list0
+empty_0 x c f v = rw v
 
-  pub unused_1 : AsksAs a f.ask1 → a.uses ≡ false → l ≡ no_list → HoldsList l (list1 x c f)
-  unfolding list1
-  unused_1 p u e = let v : f.ask1.uses ≡ false = sym p.uses ∙ u in none_held l (list1 x c f) e (rw v)
+empty_1 : (x : Refs) (c : Serial) (f : Slice) → f.ask1.uses ≡ false → list1 x c f ≡ []
+unfolding list1
+empty_1 x c f v = rw v
 
-  module _ {own : Bool} {es : List ℕ} (o : own ≡ f.own) (u : a.uses ≡ true) where
-    pub held_0 : {n : ℕ} {last : Bool} → AsksAs a f.ask0 → es ≡ f.ask0.entries → CandidateCount x own n → last ≡ (own && not a.modify && ltb a.active n)
-        → Ready x c own false a.active a.modify es → HoldsList l (built_of x c own false last a.active a.modify es) → HoldsList l (list0 x c f)
-    held_0 {last = last} p e k j q h =
-        let v : f.ask0.uses ≡ true = sym p.uses ∙ u in
-        let i : list0 x c f ≡ list_of x c own false last a.active a.modify es = rw (j, k.first c, o, p.active, p.modify, e) (list0_is x c f v) in
-        rw (i, ← built_is last q) h
+module _ (x : Refs) (c : Serial) (f : Slice) (l : RefList) {a : Ask} {own : Bool} {es : List ℕ} (o : own ≡ f.own) where
+  pub held_0 : {n : ℕ} {last : Bool} → AsksAs a f.ask0 → es ≡ f.ask0.entries → CandidateCount x own n → last ≡ (own && not a.modify && ltb a.active n)
+      → (a.uses ≡ true → Ready x c own false a.active a.modify es) → HoldsList l (cond a.uses (built_of x c own false last a.active a.modify es) []) → HoldsList l (list0 x c f)
+  held_0 {last = last} p e k j q h =
+      split a.uses
+      (λ u.
+      let v : f.ask0.uses ≡ true = sym p.uses ∙ u in
+      let i : list0 x c f ≡ list_of x c own false last a.active a.modify es = rw (j, k.first c, o, p.active, p.modify, e) (list0_is x c f v) in
+      rw (i, ← built_is last (q u)) (subst (λ (b : Bool). HoldsList l (cond b (built_of x c own false last a.active a.modify es) [])) u h))
+      (λ u. rw (empty_0 x c f (sym p.uses ∙ u)) (subst (λ (b : Bool). HoldsList l (cond b (built_of x c own false last a.active a.modify es) [])) u h))
 
-    pub held_1 : AsksAs a f.ask1 → es ≡ f.ask1.entries → Ready x c own true a.active a.modify es → HoldsList l (built_of x c own true false a.active a.modify es)
-        → HoldsList l (list1 x c f)
-    held_1 p e q h =
-        let v : f.ask1.uses ≡ true = sym p.uses ∙ u in
-        let i : list1 x c f ≡ list_of x c own true false a.active a.modify es = rw (o, p.active, p.modify, e) (list1_is x c f v) in
-        rw (i, ← built_is false q) h
+  pub held_1 : AsksAs a f.ask1 → es ≡ f.ask1.entries → (a.uses ≡ true → Ready x c own true a.active a.modify es) → HoldsList l (cond a.uses (built_of x c own true false a.active a.modify es) []) → HoldsList l (list1 x c f)
+  held_1 p e q h =
+      split a.uses
+      (λ u.
+      let v : f.ask1.uses ≡ true = sym p.uses ∙ u in
+      let i : list1 x c f ≡ list_of x c own true false a.active a.modify es = rw (o, p.active, p.modify, e) (list1_is x c f v) in
+      rw (i, ← built_is false (q u)) (subst (λ (b : Bool). HoldsList l (cond b (built_of x c own true false a.active a.modify es) [])) u h))
+      (λ u. rw (empty_1 x c f (sym p.uses ∙ u)) (subst (λ (b : Bool). HoldsList l (cond b (built_of x c own true false a.active a.modify es) [])) u h))
 
 pub listable : (l : RefList) (xs : List Serial) → HoldsList l xs → Listable l
 listable l xs h = record { holds = is_good h }
 
 -- ---- the answer
 
-pub says_listed : {a : Answer} {before after : List ℕ} {x y : RefList} {us vs : List Serial} → HoldsList x us → HoldsList y vs → Says (bytes_of (Listed (list_in x) (list_in y))) before a after → Says (bytes_of (Listed us vs)) before a after
+pub says_listed : {len : ℕ} {before after : List ℕ} {x y : RefList} {us vs : List Serial} → HoldsList x us → HoldsList y vs → Says (bytes_of (Listed (list_in x) (list_in y))) before len after → Says (bytes_of (Listed us vs)) before len after
 says_listed p q h = rw (← is_view p, ← is_view q) h
-
-pub fine_is : (v : Verdict) (n : ℕ) → v ≡ Fine → number_in v ≡ n → n ≡ 0
-fine_is v n e j = sym j ∙ rw e
 
 same_order : (s : Session) (x : Refs) (c : Current) (f : Slice) → s.refs ≡ x → lists_refusal s c f ≡ lists_number x c.serial f
 unfolding lists_refusal lists_number
 same_order s x c f e = ap (λ (y : Refs). lists_number y c.serial f) e
 
-module _ {a : Answer} (s : Session) (x : Refs) (r : s.refs ≡ x) (c : Current) (f : Slice) (before after : List ℕ) where
-  pub answers_no : (v : Verdict) (why : Refusal) → v ≡ No why → number_in v ≡ lists_number x c.serial f → Refuses (reply_to lists_kind) (number_of why) before a after → Answers (lists_at s f c) before a after
-  unfolding bytes_of
-  answers_no v why e j h =
-      let i : lists_refusal s c f ≡ number_of why = same_order s x c f r ∙ sym j ∙ rw e in
-      rw (i, refusal_number why) (record { answer = h.answer; bytes = h.bytes })
+module _ (s : Session) (x : Refs) (r : s.refs ≡ x) (c : Current) (f : Slice) (before after : List ℕ) where
+  pub gives_no : (why : Refusal) → number_of why ≡ lists_number x c.serial f → Gives (reply_to lists_kind) s (lists_at s f c) before (Err why) before
+  gives_no why j =
+      let i : lists_refusal s c f ≡ number_of why = same_order s x c f r ∙ sym j in
+      record { ok = tt; err = record { decided = rw (i, refusal_number why); bytes = refl } }
 
-  pub answers_lists : lists_number x c.serial f ≡ 0 → Says (bytes_of (Listed (list0 x c.serial f) (list1 x c.serial f))) before a after → Answers (lists_at s f c) before a after
-  answers_lists j h =
+  pub gives_lists : {len : ℕ} → lists_number x c.serial f ≡ 0 → Says (bytes_of (Listed (list0 x c.serial f) (list1 x c.serial f))) before len after → Gives (reply_to lists_kind) s (lists_at s f c) before (Ok len) after
+  gives_lists j h =
       let i : lists_refusal s c f ≡ 0 = same_order s x c f r ∙ j in
-      rw (i, r) (record { answer = h.answer; bytes = h.bytes })
+      record { ok = rw (i, r) (record { answer = ap accepts h.long; bytes = h.bytes }); err = tt }
 
-now_is : (s : Session) (f : Slice) (w : Now) → s.current ≡ w → lists_of s f ≡ on_now w (refused s (reply_to lists_kind) 4) (lists_at s f)
+now_is : (s : Session) (f : Slice) (w : Option Current) → s.current ≡ w → lists_of s f ≡ on_now w (refused s (reply_to lists_kind) 4) (lists_at s f)
 unfolding lists_of
-now_is s f w e = ap (λ (v : Now). on_now v (refused s (reply_to lists_kind) 4) (lists_at s f)) e
+now_is s f w e = ap (λ (v : Option Current). on_now v (refused s (reply_to lists_kind) 4) (lists_at s f)) e
 
-pub answers_now : {a : Answer} (s : Session) (f : Slice) (before after : List ℕ) (w : Now) → s.current ≡ w → Answers (on_now w (refused s (reply_to lists_kind) 4) (lists_at s f)) before a after → Answers (lists_of s f) before a after
-answers_now s f before after w e h = rw (now_is s f w e) h
+pub gives_now : {given : Result ℕ Refusal} (s : Session) (f : Slice) (before after : List ℕ) (w : Option Current) → s.current ≡ w
+    → Gives (reply_to lists_kind) s (on_now w (refused s (reply_to lists_kind) 4) (lists_at s f)) before given after → Gives (reply_to lists_kind) s (lists_of s f) before given after
+gives_now s f before after w e h = rw (now_is s f w e) h
 
-pub answers_idle : {a : Answer} (s : Session) (before after : List ℕ) → Refuses (reply_to lists_kind) 4 before a after → Answers (refused s (reply_to lists_kind) 4) before a after
-unfolding bytes_of
-answers_idle s before after h = record { answer = h.answer; bytes = h.bytes }
+pub gives_idle : (s : Session) (before : List ℕ) → Gives (reply_to lists_kind) s (refused s (reply_to lists_kind) 4) before (Err NoCurrent) before
+gives_idle s before = record { ok = tt; err = record { decided = refl; bytes = refl } }

@@ -16,8 +16,8 @@ use Rattle.paper.specs.Records.{length_of, kind_of, body_ok, well_formed, fields
 use Rattle.paper.proofs.Bools.{both, left, right, split}
 use Rattle.paper.proofs.ReadBack.{four_back}
 use Rattle.format.specs.declared.records.BeginFields.{BeginFields}
-use Rattle.session.specs.declared.Target.{Target}
-use Rattle.session.specs.declared.Target.TheVariants.{Own, Chosen}
+use Rattle.std.proofs.Common.{Option, None, Some}
+use Rattle.paper.specs.declared.Surface.{Surface}
 use Rattle.session.specs.Target.{is_begin, with_surface, taken_as, fields_with, fields_at, begin_with, begin_at}
 use Rattle.session.proofs.Bytes.{length_bytes32}
 use Rattle.session.proofs.Entries.{all_both}
@@ -162,31 +162,31 @@ module _ (x : ℕ) (r : List ℕ) where
         lt = (longs_same (16 + 5 * (u8 w 13 + u8 w 14)) (u8 w 15) (omega arith) ∙ (λ j. table (long_at r (16 + 5 * (neg j + pos j))) (lt j))) i;
       }
 
--- ---- a begin as its target has it
+-- ---- a begin with the surface that was chosen, if one
 
 -- the surface that is chosen is a u32
-abbrev pub FitTarget : Target → Type 0
-FitTarget Own = Unit {0}
-FitTarget (Chosen x) = x.0 < 4294967296
+abbrev pub FitSurface : Option Surface → Type 0
+FitSurface None = Unit {0}
+FitSurface (Some x) = x.0 < 4294967296
 
-pub taken_other : (t : Target) (r : List ℕ) → is_begin r ≡ false → taken_as t r ≡ r
-taken_other Own r e = refl
-taken_other (Chosen x) r e = with_other x.0 r e
+pub taken_other : (t : Option Surface) (r : List ℕ) → is_begin r ≡ false → taken_as t r ≡ r
+taken_other None r e = refl
+taken_other (Some x) r e = with_other x.0 r e
 
-pub taken_begin : (t : Target) (r : List ℕ) → is_begin (taken_as t r) ≡ is_begin r
-taken_begin Own r = refl
-taken_begin (Chosen x) r = with_begin x.0 r
+pub taken_begin : (t : Option Surface) (r : List ℕ) → is_begin (taken_as t r) ≡ is_begin r
+taken_begin None r = refl
+taken_begin (Some x) r = with_begin x.0 r
 
-pub taken_fields : (t : Target) (r : List ℕ) → FitTarget t → is_begin r ≡ true → fields_of (taken_as t r) ≡ fields_at t r
-taken_fields Own r f is = refl
-taken_fields (Chosen x) r f is = with_fields x.0 r is f
+pub taken_fields : (t : Option Surface) (r : List ℕ) → FitSurface t → is_begin r ≡ true → fields_of (taken_as t r) ≡ fields_at t r
+taken_fields None r f is = refl
+taken_fields (Some x) r f is = with_fields x.0 r is f
 
 -- the fields that were read, by their own surface
-pub read_as : (t : Target) (r : List ℕ) {h : BeginFields} → h ≡ begin_at t r → h ≡ begin_with h.surface r
-read_as Own r e = e ∙ ap (λ (g : BeginFields). begin_with g.surface r) (sym e)
-read_as (Chosen x) r e = e ∙ ap (λ (g : BeginFields). begin_with g.surface r) (sym e)
+pub read_as : (t : Option Surface) (r : List ℕ) {h : BeginFields} → h ≡ begin_at t r → h ≡ begin_with h.surface r
+read_as None r e = e ∙ ap (λ (g : BeginFields). begin_with g.surface r) (sym e)
+read_as (Some x) r e = e ∙ ap (λ (g : BeginFields). begin_with g.surface r) (sym e)
 
-pub fields_as : (t : Target) (r : List ℕ) {h : BeginFields} → h ≡ begin_at t r → fields_with h.surface r ≡ fields_at t r
+pub fields_as : (t : Option Surface) (r : List ℕ) {h : BeginFields} → h ≡ begin_at t r → fields_with h.surface r ≡ fields_at t r
 unfolding fields_with fields_of
-fields_as Own r e = ap (λ (g : BeginFields). fields_with g.surface r) e
-fields_as (Chosen x) r e = ap (λ (g : BeginFields). fields_with g.surface r) e
+fields_as None r e = ap (λ (g : BeginFields). fields_with g.surface r) e
+fields_as (Some x) r e = ap (λ (g : BeginFields). fields_with g.surface r) e

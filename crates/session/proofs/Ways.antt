@@ -4,10 +4,8 @@ use mathlib.Core.Path.{◌≡◌, refl, sym, ap, ◌∙◌}
 use mathlib.Core.List.{List, [], ◌∷◌}
 use mathlib.Core.Bool.{Bool, true, false, not, ◌&&◌}
 use lib.Dec.{eqb}
-use borrow.Author.Tests.{not-true, not-false}
 use Rattle.paper.specs.declared.Current.{Current}
 use Rattle.paper.specs.declared.Limits.{Limits}
-use Rattle.paper.specs.declared.Now.{Now}
 use Rattle.paper.specs.Words.{Test, ◌gives◌, first, any_b}
 use Rattle.paper.specs.Numbers.{missing}
 use Rattle.paper.specs.Kinds.{configure_kind, begin_kind, finish_kind, drain_kind, discard_kind, end_kind, abandon_kind, reply_to}
@@ -19,6 +17,7 @@ use Rattle.paper.specs.Begin.{within}
 use Rattle.paper.specs.Calls.{full, finished, drained_now, discarded, dropped, finished_session, drained_session, configured_session, discarded_session, abandoned_session, ended_session}
 use Rattle.paper.specs.Step.{Decided, refused, accepted, unless, configure_refusal, configure_of, held_by, begin_refusal, begin_of, finish_at, finish_of, drain_of, discard_of, end_of, abandon_of}
 use Rattle.paper.proofs.Ways.{begun}
+use Rattle.std.proofs.Common.{Option, None, Some}
 
 -- ---- an order of refusals, one test at a time
 
@@ -45,13 +44,13 @@ module _ (v : Session) where
   pub finish_room : (c : Current) → full v ≡ false → finish_at v c ≡ accepted (finished_session v c) finish_kind (finished v.limits v.store c).tail
   finish_room c e = numbered 4 _ 0 (accepted (finished_session v c) finish_kind (finished v.limits v.store c).tail) (first_no (full v) 9 [] e ∙ first_end)
 
-  pub finish_idle : v.current ≡ Now.Idle → finish_of v ≡ refused v (reply_to finish_kind) 4
+  pub finish_idle : v.current ≡ None → finish_of v ≡ refused v (reply_to finish_kind) 4
   unfolding finish_of
-  finish_idle e = ap (λ (x : Now). on_now x (refused v (reply_to finish_kind) 4) (finish_at v)) e
+  finish_idle e = ap (λ (x : Option Current). on_now x (refused v (reply_to finish_kind) 4) (finish_at v)) e
 
-  pub finish_now : (c : Current) → v.current ≡ Now.Is c → finish_of v ≡ finish_at v c
+  pub finish_now : (c : Current) → v.current ≡ Some c → finish_of v ≡ finish_at v c
   unfolding finish_of
-  finish_now c e = ap (λ (x : Now). on_now x (refused v (reply_to finish_kind) 4) (finish_at v)) e
+  finish_now c e = ap (λ (x : Option Current). on_now x (refused v (reply_to finish_kind) 4) (finish_at v)) e
 
   abbrev stuck : Bool
   stuck = is_current v.current && full v
@@ -91,13 +90,13 @@ module _ (v : Session) where
   abbrev abandoned : Current → Decided
   abandoned c = accepted (abandoned_session v) abandon_kind (dropped c)
 
-  pub abandon_idle : v.current ≡ Now.Idle → abandon_of v ≡ refused v (reply_to abandon_kind) 4
+  pub abandon_idle : v.current ≡ None → abandon_of v ≡ refused v (reply_to abandon_kind) 4
   unfolding abandon_of
-  abandon_idle e = ap (λ (x : Now). on_now x (refused v (reply_to abandon_kind) 4) abandoned) e
+  abandon_idle e = ap (λ (x : Option Current). on_now x (refused v (reply_to abandon_kind) 4) abandoned) e
 
-  pub abandon_now : (c : Current) → v.current ≡ Now.Is c → abandon_of v ≡ accepted (abandoned_session v) abandon_kind (dropped c)
+  pub abandon_now : (c : Current) → v.current ≡ Some c → abandon_of v ≡ accepted (abandoned_session v) abandon_kind (dropped c)
   unfolding abandon_of
-  abandon_now c e = ap (λ (x : Now). on_now x (refused v (reply_to abandon_kind) 4) abandoned) e
+  abandon_now c e = ap (λ (x : Option Current). on_now x (refused v (reply_to abandon_kind) 4) abandoned) e
 
   -- begin: "1, 3, 5, 8, 7, 6", each behind the ones before it
   module _ (f : Fields) where
@@ -150,8 +149,5 @@ module _ (v : Session) where
               begin_0 e = numbered 2 _ 0 (begun v f) (to7 _ ∙ first_no no7 7 _ p7 ∙ first_no (not (within v f)) 6 [] (rw e) ∙ first_end)
 
 -- what a test of the limits that were read says of those of the record
-pub ranges_no : {l m : Limits} {b : Bool} → l ≡ m → b ≡ configure_ranges l → not b ≡ true → configure_ranges m ≡ false
-ranges_no {b = b} e p h = sym (ap configure_ranges e) ∙ sym p ∙ not-true b h
-
-pub ranges_yes : {l m : Limits} {b : Bool} → l ≡ m → b ≡ configure_ranges l → not b ≡ false → configure_ranges m ≡ true
-ranges_yes {b = b} e p h = sym (ap configure_ranges e) ∙ sym p ∙ not-false b h
+pub ranges_are : {l m : Limits} {b c : Bool} → l ≡ m → b ≡ configure_ranges l → b ≡ c → configure_ranges m ≡ c
+ranges_are e p h = sym (ap configure_ranges e) ∙ sym p ∙ h

@@ -8,26 +8,26 @@ use Rattle.paper.specs.Numbers.{a_serial, a_surface}
 use Rattle.paper.specs.State.{is_current, on_now}
 use Rattle.paper.specs.State as P
 use Rattle.paper.specs.declared.Limits.{Limits}
-use Rattle.paper.specs.declared.Prev.{Prev}
 use Rattle.paper.specs.declared.Current.{Current}
-use Rattle.paper.specs.declared.Now.{Now}
 use Rattle.derivation.specs.declared.ref_lists.Refs.{Refs}
 use Rattle.store.specs.StoreWords.{word, flag_of, flag_word, NormalForm}
 use Rattle.session.specs.FrontPlaces.{CONFIGURED}
 use Rattle.session.specs.View.{Memory, Front, session_in}
+use Rattle.std.specs.Prelude.{Option, None, Some}
+use Rattle.paper.specs.declared.Tid0.{Tid0}
 
 abbrev pub limits_words : Limits → List ℕ
 limits_words l = l.k ∷ l.capacity ∷ l.buffering ∷ l.reorder ∷ l.latency ∷ []
 
 -- one number where no Tid0 picture was, another of the previous one's lsb and msb
-abbrev pub on_prev : Prev → ℕ → (ℕ → ℤ → ℕ) → ℕ
-on_prev Prev.Nothing x g = x
-on_prev (Prev.Tid0 lsb msb) x g = g lsb msb
+abbrev pub on_prev : Option Tid0 → ℕ → (ℕ → ℤ → ℕ) → ℕ
+on_prev None x g = x
+on_prev (Some p) x g = g p.lsb p.msb
 
-abbrev pub prev_words : Prev → List ℕ
+abbrev pub prev_words : Option Tid0 → List ℕ
 prev_words q = on_prev q 0 (λ lsb msb. 1) ∷ on_prev q 0 (λ lsb msb. lsb) ∷ on_prev q 0 (λ lsb msb. of_z w32 msb) ∷ []
 
-abbrev pub now_words : Now → List ℕ
+abbrev pub now_words : Option Current → List ℕ
 now_words n =
     flag_word (is_current n)
     ∷ on_now n 0 (λ c. c.serial.0)

@@ -4,6 +4,7 @@ pub mod View
 pub mod Laid
 pub mod Said
 pub mod Target
+pub mod Runs
 pub mod Parts
 pub mod Slices
 pub mod Written

@@ -1,24 +1,34 @@
 -- What a call answers, writes and leaves.
 use Rattle.std.specs.Prelude.{ℕ, ◌≤◌, ◌<◌, ◌≡◌, List, [], length, true}
+use Rattle.std.specs.Prelude.{Result, IfOk, IfErr, OnErr}
 use Rattle.std.specs.Borrow.{MutBor}
 use denote.Triple.Both.{Both}
 use Rattle.wire.specs.Bytes.{over}
+use Rattle.format.specs.declared.kinds.Kind.{Kind}
+use Rattle.format.specs.Kind as Kinds
 use Rattle.paper.specs.Numbers.{reply_limit}
-use Rattle.paper.specs.Kinds.{rest_place}
+use Rattle.paper.specs.Kinds.{reply_to, malformed_reply, rest_place}
 use Rattle.paper.specs.Records.{kind_of, well_formed}
 use Rattle.paper.specs.Replies.{bytes_of, framed, tail_bytes}
 use Rattle.paper.specs.State.{Session, on_now, all_refs}
 use Rattle.paper.specs.Calls.{drained, prev_after}
-use Rattle.paper.specs.Step.{Decided, step_of}
-use Rattle.paper.specs.declared.Prev.{Prev}
+use Rattle.paper.specs.Step.{Decided, refused, step_of}
 use Rattle.store.specs.StoreWords.{word, stored, NormalForm}
 use Rattle.session.specs.declared.Answer.{Answer}
+use Rattle.session.specs.declared.Refusal.{Refusal}
+use Rattle.session.specs.Numbered.{number_of}
 use Rattle.session.specs.View.{Memory, Front, memory, session_in, front_in, idle_front, now_at, prev_at, limits_at}
 use Rattle.session.specs.Laid.{front_words, NormalMemory}
+use Rattle.std.specs.Prelude.{Option, None, Some}
+use Rattle.paper.specs.declared.Tid0.{Tid0}
 
--- an accepted record's reply
-pub record Says (reply before : List ℕ) (a : Answer) (after : List ℕ) : Type 0 where
-  pub answer : a ≡ record { number = 0; len = length reply }
+-- the answer to an accepted record: the number 0 and the reply's length
+abbrev pub accepts : ℕ → Answer
+accepts n = record { number = 0; len = n }
+
+-- an accepted record's reply and its length
+pub record Says (reply before : List ℕ) (len : ℕ) (after : List ℕ) : Type 0 where
+  pub long : len ≡ length reply
   pub bytes : after ≡ over reply before
 
 -- a refused one's
@@ -26,10 +36,14 @@ pub record Refuses (kind number : ℕ) (before : List ℕ) (a : Answer) (after :
   pub answer : a ≡ record { number = number; len = rest_place }
   pub bytes : after ≡ over (framed kind number []) before
 
+-- the answer where the reply buffer is under 512 bytes: number 14, and nothing is written
+abbrev pub no_room : Answer
+no_room = record { number = 14; len = 0 }
+
 -- a refusal by a layer above the session: "reply buffer under 512 bytes" is number 14 and writes nothing, else six
 -- bytes say the layer's own number
 pub record Declines (kind number : ℕ) (before : List ℕ) (a : Answer) (after : List ℕ) : Type 0 where
-  pub small : length before < reply_limit → (a ≡ record { number = 14; len = 0 }) × (after ≡ before)
+  pub small : length before < reply_limit → (a ≡ no_room) × (after ≡ before)
   pub refuses : reply_limit ≤ length before → Refuses kind number before a after
 
 -- the answer and the reply to a record of which d was decided
@@ -50,27 +64,57 @@ pub record Does (m : Memory) (d : Decided) (before : List ℕ) (a : Answer) (m' 
 abbrev pub Lent : Type 0
 Lent = Both (MutBor (List ℕ)) (MutBor (List ℕ))
 
--- a call decides of the session that lies in m by `decide`, answers and writes what was decided, and leaves m'
-abbrev pub Decides : (Session → Decided) → Memory → Memory → Lent → Answer → Type 0
-Decides decide m m' reply a = Does m (decide (session_in m)) reply.entry.now a m' reply.exit.now
+-- d was decided of the session s, and it is this refusal, in a reply of this kind: the reply is still to be written
+pub record Rejects (kind : ℕ) (s : Session) (d : Decided) (before : List ℕ) (why : Refusal)
+    (after : List ℕ) : Type 0 where
+  pub decided : d ≡ refused s kind (number_of why)
+  pub bytes : after ≡ before
+
+-- what is given where d was decided: the length of the reply that was written, or the refusal
+pub record Gives (kind : ℕ) (s : Session) (d : Decided) (before : List ℕ) (given : Result ℕ Refusal)
+    (after : List ℕ) : Type 0 where
+  pub ok : IfOk given (λ (len : ℕ). Answers d before (accepts len) after)
+  pub err : IfErr given (λ (why : Refusal). Rejects kind s d before why after)
+
+-- likewise of the session that lies in m, with the memory m' that is left: where it is a refusal, m
+pub record Tries (kind : ℕ) (m : Memory) (d : Decided) (before : List ℕ) (given : Result ℕ Refusal) (m' : Memory)
+    (after : List ℕ) : Type 0 where
+  pub ok : IfOk given (λ (len : ℕ). Does m d before (accepts len) m' after)
+  pub err : IfErr given (λ (why : Refusal). Rejects kind (session_in m) d before why after)
+  pub left : OnErr given (m' ≡ m)
+
+-- the number that stands for a kind in a reply
+abbrev pub reply_kind : Kind → ℕ
+reply_kind kind = reply_to (Kinds.number_of kind)
+
+-- that which stands in a refusal, by the kind that was read; a record that has none is malformed
+abbrev pub refused_kind : Option Kind → ℕ
+refused_kind None = malformed_reply
+refused_kind (Some kind) = reply_kind kind
+
+-- a call decides of the session that lies in m by `decide`. Where that accepts, it writes what was decided and leaves
+-- m'; where it refuses, in a reply of this kind, it gives the refusal and changes nothing
+abbrev pub Decides : ℕ → (Session → Decided) → Memory → Memory → Lent → Result ℕ Refusal → Type 0
+Decides kind decide m m' reply given =
+    Tries kind m (decide (session_in m)) reply.entry.now given m' reply.exit.now
 
 -- where the whole memory is lent to it
-abbrev pub Calls : (Session → Decided) → Lent → Lent → Lent → Lent → Answer → Type 0
-Calls decide front sets store reply a =
-    Decides decide (memory front.entry.now sets.entry.now store.entry.now)
-    (memory front.exit.now sets.exit.now store.exit.now) reply a
+abbrev pub Calls : ℕ → (Session → Decided) → Lent → Lent → Lent → Lent → Result ℕ Refusal → Type 0
+Calls kind decide front sets store reply given =
+    Decides kind decide (memory front.entry.now sets.entry.now store.entry.now)
+    (memory front.exit.now sets.exit.now store.exit.now) reply given
 
 -- where the run of the sets is not lent to it: whatever that holds
-abbrev pub CallsStore : (Session → Decided) → Lent → Lent → Lent → Answer → Type 0
-CallsStore decide front store reply a =
+abbrev pub CallsStore : ℕ → (Session → Decided) → Lent → Lent → Lent → Result ℕ Refusal → Type 0
+CallsStore kind decide front store reply given =
     (xs : List ℕ)
-    → Decides decide (memory front.entry.now xs store.entry.now)
-    (memory front.exit.now xs store.exit.now) reply a
+    → Decides kind decide (memory front.entry.now xs store.entry.now)
+    (memory front.exit.now xs store.exit.now) reply given
 
 -- where neither that run nor the store is lent to it
-abbrev pub CallsFront : (Session → Decided) → Lent → Lent → Answer → Type 0
-CallsFront decide front reply a =
-    (xs t : List ℕ) → Decides decide (memory front.entry.now xs t) (memory front.exit.now xs t) reply a
+abbrev pub CallsFront : ℕ → (Session → Decided) → Lent → Lent → Result ℕ Refusal → Type 0
+CallsFront kind decide front reply given =
+    (xs t : List ℕ) → Decides kind decide (memory front.entry.now xs t) (memory front.exit.now xs t) reply given
 
 -- "reply buffer under 512 bytes" is number 14: the calls behind it have the room
 pub record Roomy (reply : List ℕ) : Type 0 where
@@ -82,21 +126,21 @@ pub record WellFormed (k : ℕ) (r : List ℕ) : Type 0 where
   pub kind : kind_of r ≡ k
 
 -- the words beside the store when no picture is current any more and q is the previous Tid0 picture
-pub record Idles (h h' : List ℕ) (q : Prev) : Type 0 where
+pub record Idles (h h' : List ℕ) (q : Option Tid0) : Type 0 where
   pub front : front_in h' ≡ idle_front (front_in h) q
   pub words : (f : Front) → h ≡ front_words f → h' ≡ front_words (idle_front f q)
 
 -- a drain that nothing refuses, with the reply of kind `kind`
-pub record Drained (h t : List ℕ) (kind : ℕ) (before : List ℕ) (a : Answer) (h' t' after : List ℕ) : Type 0 where
-  pub says : Says (framed kind 0 (tail_bytes (drained (limits_at h) (stored t) (now_at h)).tail)) before a after
+pub record Drained (h t : List ℕ) (kind : ℕ) (before : List ℕ) (len : ℕ) (h' t' after : List ℕ) : Type 0 where
+  pub says : Says (framed kind 0 (tail_bytes (drained (limits_at h) (stored t) (now_at h)).tail)) before len after
   pub pics : stored t' ≡ (drained (limits_at h) (stored t) (now_at h)).pics
   pub front : Idles h h' (on_now (now_at h) (prev_at h) (prev_after (prev_at h)))
   pub normal : NormalForm t → NormalForm t'
 
 -- of what is lent to it
-abbrev pub Drains : ℕ → Lent → Lent → Lent → Answer → Type 0
-Drains kind front store reply a =
-    Drained front.entry.now store.entry.now kind reply.entry.now a front.exit.now
+abbrev pub Drains : ℕ → Lent → Lent → Lent → ℕ → Type 0
+Drains kind front store reply len =
+    Drained front.entry.now store.entry.now kind reply.entry.now len front.exit.now
     store.exit.now reply.exit.now
 
 -- The contract of `step`: the answer, the whole buffer and the next session are those of the paper's `step_of`; a

@@ -1,10 +1,10 @@
 -- A begin as the code goes through it: what has been read and tested at each stage.
-use Rattle.std.specs.Prelude.{ℕ, ◌+◌, ◌≤◌, ℤ, ◌≡◌, List, ◌++◌, Bool, true, false, cond, not, ◌&&◌, eqb}
+use Rattle.std.specs.Prelude.{ℕ, ◌+◌, ◌≤◌, ◌≡◌, List, ◌++◌, Bool, true, false, cond, not, ◌&&◌, eqb}
 use Rattle.paper.specs.declared.Limits.{Limits}
-use Rattle.paper.specs.declared.Prev.{Prev}
 use Rattle.paper.specs.declared.Current.{Current}
 use Rattle.paper.specs.declared.Serial.{Serial}
 use Rattle.paper.specs.declared.Picture.{Picture}
+use Rattle.paper.specs.declared.Wish.{Wish}
 use Rattle.paper.specs.Words.{any_b}
 use Rattle.paper.specs.Numbers.{bit, flag_at, missing, a_serial}
 use Rattle.paper.specs.Kinds.{begin_kind, reply_to}
@@ -24,7 +24,6 @@ use Rattle.store.specs.declared.Sizes.{Sizes}
 use Rattle.store.specs.StoreWords.{word, flag_of, stored, NormalForm}
 use Rattle.store.specs.Runs.{wishes_in}
 use Rattle.format.specs.declared.records.BeginFields.{BeginFields}
-use Rattle.session.specs.declared.Answer.{Answer}
 use Rattle.session.specs.declared.replies.Told.{Told}
 use Rattle.session.specs.declared.begin.Flags.{Flags}
 use Rattle.session.specs.declared.begin.Start.{Start}
@@ -33,6 +32,8 @@ use Rattle.session.specs.View.{limits_at}
 use Rattle.session.specs.Said.{Says}
 use Rattle.session.specs.Target.{fields_with, begin_with}
 use Rattle.session.specs.Written.{begun_part}
+use Rattle.std.specs.Prelude.{Option, None}
+use Rattle.paper.specs.declared.Tid0.{Tid0}
 
 abbrev pub flags_from : Bool → Bool → BeginFields → Flags
 flags_from start ended h =
@@ -47,8 +48,8 @@ flags_from start ended h =
 abbrev pub flags_number : Flags → ℕ
 flags_number f = flag_at 0 f.rasl + flag_at 1 f.output + flag_at 2 f.valid + flag_at 3 f.prior
 
-abbrev pub prev_from : Bool → Prev → Prev
-prev_from over q = cond over Prev.Nothing q
+abbrev pub prev_from : Bool → Option Tid0 → Option Tid0
+prev_from over q = cond over None q
 
 abbrev pub current_from : ℕ → BeginFields → Start → Current
 current_from next h t =
@@ -88,19 +89,19 @@ pub record Placed (s : Session) (r : List ℕ) (l : Limits) (h : BeginFields) (t
   pub inside : (in32 t.msb && in32 t.poc) ≡ true
 
 -- and the wishes, all of which do
-pub record Wished (s : Session) (r : List ℕ) (l : Limits) (h : BeginFields) (t : Start) (ps : List ℤ)
-    (hs : List ℕ) : Type 0 where
+pub record Wished (s : Session) (r : List ℕ) (l : Limits) (h : BeginFields) (t : Start)
+    (ws : List Wish) : Type 0 where
   pub placed : Placed s r l h t
   pub within : within s (fields_with h.surface r) ≡ true
   pub few : h.neg + h.pos + h.lt ≤ 16
-  pub wishes : wishes_in ps hs h.neg h.pos h.lt ≡ wishes s (fields_with h.surface r)
+  pub wishes : wishes_in ws h.neg h.pos h.lt ≡ wishes s (fields_with h.surface r)
 
 -- step 5 of the pictures that step 4 marked, and the reply, where the two runs of the sets are first and second
 pub record Tells (h : List ℕ) (first second : List Serial) (ps : List Picture) (p : List ℕ) (t : Start) (x : Sizes)
-    (before : List ℕ) (a : Answer) (p' after : List ℕ) : Type 0 where
+    (before : List ℕ) (len : ℕ) (p' after : List ℕ) : Type 0 where
   pub pics : stored p' ≡ (before_decoding (t.flags.over && not (flag_of (word h ENDED))) t.flags.prior
       (limits_at h) ps).pics
   pub normal : NormalForm p → NormalForm p'
   pub says : Says (framed (reply_to begin_kind) 0 (begun_part (told_from (word h NEXT) t) x first second
       ++ tail_bytes (before_decoding (t.flags.over && not (flag_of (word h ENDED))) t.flags.prior
-      (limits_at h) ps).tail)) before a after
+      (limits_at h) ps).tail)) before len after

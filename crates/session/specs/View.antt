@@ -6,15 +6,16 @@ use Rattle.std.proofs.Common.{to_z}
 use Rattle.paper.specs.Numbers.{a_serial, a_surface}
 use Rattle.paper.specs.State as P
 use Rattle.paper.specs.declared.Limits.{Limits}
-use Rattle.paper.specs.declared.Prev.{Prev}
 use Rattle.paper.specs.declared.Current.{Current}
-use Rattle.paper.specs.declared.Now.{Now}
 use Rattle.derivation.specs.declared.ref_lists.Refs.{Refs}
 use Rattle.derivation.specs.Lists.{refs_in}
 use Rattle.store.specs.StoreWords.{word, flag_of, stored}
 use Rattle.session.specs.FrontPlaces.{CONFIGURED, FIRST, ENDED, NEXT, K, CAPACITY, BUFFERING, REORDER, LATENCY}
 use Rattle.session.specs.FrontPlaces.{PREV, PREV-LSB, PREV-MSB}
 use Rattle.session.specs.FrontPlaces.{CURRENT, SERIAL, SURFACE, POC, LSB, MSB, OUTPUT, VALID, BEFORE, AFTER, LONG}
+use Rattle.std.specs.Prelude.{Option, None, Some}
+use Rattle.paper.specs.declared.Tid0.{Tid0}
+use Rattle.paper.specs.Poc.{tid0}
 
 -- the words beside the store and the run of the sets, that run, and the store's words
 pub record Memory : Type 0 where
@@ -37,8 +38,8 @@ limits_at h =
       latency = word h LATENCY % 65536;
     }
 
-abbrev pub prev_at : List ℕ → Prev
-prev_at h = cond (flag_of (word h PREV)) (Prev.Tid0 (word h PREV-LSB % 65536) (to_z w32 (word h PREV-MSB))) Prev.Nothing
+abbrev pub prev_at : List ℕ → Option Tid0
+prev_at h = cond (flag_of (word h PREV)) (tid0 (word h PREV-LSB % 65536) (to_z w32 (word h PREV-MSB))) None
 
 abbrev pub current_at : List ℕ → Current
 current_at h =
@@ -52,8 +53,8 @@ current_at h =
       valid = flag_of (word h VALID);
     }
 
-abbrev pub now_at : List ℕ → Now
-now_at h = cond (flag_of (word h CURRENT)) (Now.Is (current_at h)) Now.Idle
+abbrev pub now_at : List ℕ → Option Current
+now_at h = cond (flag_of (word h CURRENT)) (Some (current_at h)) None
 
 abbrev pub refs_at : List ℕ → Refs
 refs_at h = record { before = word h BEFORE % 256; after = word h AFTER % 256; long = word h LONG % 256 }
@@ -62,9 +63,9 @@ refs_at h = record { before = word h BEFORE % 256; after = word h AFTER % 256; l
 pub record Front : Type 0 where
   pub configured : Bool
   pub limits : Limits
-  pub current : Now
+  pub current : Option Current
   pub refs : Refs
-  pub prev : Prev
+  pub prev : Option Tid0
   pub start : Bool
   pub ended : Bool
   pub next : ℕ
@@ -106,12 +107,12 @@ session_in m = session_of (front_in m.front) m.sets m.store
 abbrev pub no_sizes : Refs
 no_sizes = record { before = 0; after = 0; long = 0 }
 
-abbrev pub idle_front : Front → Prev → Front
+abbrev pub idle_front : Front → Option Tid0 → Front
 idle_front f q =
     record {
       configured = f.configured;
       limits = f.limits;
-      current = Now.Idle;
+      current = None;
       refs = no_sizes;
       prev = q;
       start = f.start;
@@ -137,7 +138,7 @@ begun_front f c x n =
     record {
       configured = f.configured;
       limits = f.limits;
-      current = Now.Is c;
+      current = Some c;
       refs = x;
       prev = f.prev;
       start = false;

@@ -1,5 +1,6 @@
 // Begin: its refusals in their order, and its five steps.
-ghost use Rattle.std.specs.Prelude.{◌≡◌, cond, ◌+◌, eqb};
+ghost use Rattle.std.specs.Prelude.{◌≡◌, cond, ◌+◌, eqb, Ok};
+ghost use Rattle.paper.specs.Kinds.{begin_kind, reply_to};
 ghost use Rattle.paper.specs.Step.{begin_of};
 ghost use Rattle.session.specs.View.{memory, session_in};
 ghost use Rattle.session.specs.Said.{Calls, Roomy};
@@ -9,13 +10,11 @@ ghost use Rattle.session.specs.Starts.{flags_from, flags_number, prev_from, curr
 ghost use Rattle.session.specs.Starts.{Passed, Placed, Wished};
 
 use crate::replies::Told;
-use crate::{Answer, FRONT, Refusal, Target, records, replies, words};
-use derivation::poc::Poc;
+use crate::{FRONT, Refusal, records, replies, words};
 use derivation::ref_lists::Refs;
 use derivation::{nal, poc};
-use format::kinds;
 use format::records::BeginFields;
-use paper::{Current, Limits, Prev, Serial};
+use paper::{Current, Limits, Serial, Surface, Tid0, Wish};
 use store::{Sizes, Store};
 use wire::flag_bytes;
 
@@ -45,52 +44,40 @@ fn flags_of(start: bool, ended: bool, h: BeginFields) -> Flags
     let rasl = nal::no_rasl_output(h.nal, start, ended);
     Flags {
         rasl,
-        output: nal::pic_output(h.nal, rasl, flag_bytes::bit0(h.flags)),
+        output: nal::pic_output(h.nal, rasl, flag_bytes::bit::<0>(h.flags)),
         valid: nal::valid_prev(h.nal, h.tid),
-        prior: nal::no_prior_output(h.nal, rasl, start, flag_bytes::bit1(h.flags)),
+        prior: nal::no_prior_output(h.nal, rasl, start, flag_bytes::bit::<1>(h.flags)),
         over: nal::is_irap(h.nal) & rasl,
     }
-}
-
-// This bit if the flag is on, else 0.
-fn flag_at(b: bool, bit: u8) -> u8
-    ensures { result ≡ cond b bit 0 }
-{
-    if b { bit } else { 0 }
 }
 
 // "flags u8 (bit 0 NoRaslOutputFlag, 1 output flag, 2 valid for prevTid0Pic, 3 no output of prior pictures)".
 fn flags_byte(f: Flags) -> u8
     ensures { result ≡ flags_number f }
 {
-    flag_at(f.rasl, 1) + flag_at(f.output, 2) + flag_at(f.valid, 4) + flag_at(f.prior, 8)
+    u8::from(f.rasl) + 2 * u8::from(f.output) + 4 * u8::from(f.valid) + 8 * u8::from(f.prior)
 }
 
 // The previous Tid0 picture that step 2 derives the MSB from, if there is one: "MSB 0 for IRAP with NoRaslOutputFlag
 // or no previous Tid0 picture".
-fn prev_for(over: bool, q: Prev) -> Prev
+fn prev_for(over: bool, q: Option<Tid0>) -> Option<Tid0>
     ensures { result ≡ prev_from over q }
 {
-    if over {
-        return Prev::Nothing;
-    }
-    q
+    if over { None } else { q }
 }
 
 // The picture that a begin makes current.
 fn current_of(next: Serial, h: BeginFields, t: Start) -> Current
     ensures { result ≡ current_from next.0 h t }
 {
-    let surface = h.surface;
-    let f = t.flags;
     Current {
         serial: next,
-        surface,
+        surface: h.surface,
         poc: t.poc,
         lsb: h.lsb,
         msb: t.msb,
-        output: f.output,
-        valid: f.valid,
+        output: t.flags.output,
+        valid: t.flags.valid,
     }
 }
 
@@ -98,17 +85,16 @@ fn current_of(next: Serial, h: BeginFields, t: Start) -> Current
 fn next_after(n: u32) -> u32
     ensures { result ≡ cond (eqb n 4294967295) 0 (n + 1) }
 {
-    if n == Store::MISSING { 0 } else { n + 1 }
+    n.wrapping_add(1)
 }
 
 // What the reply says of the picture, but for its sets.
 fn told_of(next: Serial, t: Start) -> Told
     ensures { result ≡ told_from next.0 t }
 {
-    let f = t.flags;
     Told {
         poc: t.poc,
-        flags: flags_byte(f),
+        flags: flags_byte(t.flags),
         serial: next,
     }
 }
@@ -135,36 +121,32 @@ fn begun(
     l: Limits,
     h: BeginFields,
     t: Start,
-    pocs: &[i32; Store::CAPACITY],
-    hows: &[u8; Store::CAPACITY],
+    wishes: &[Wish; Store::CAPACITY],
     reply: &mut [u8],
-) -> Answer
-    requires { Wished (session_in (memory front.old sets.old store.old)) msg.now l h t pocs.now hows.now
+) -> usize
+    requires { Wished (session_in (memory front.old sets.old store.old)) msg.now l h t wishes.now
         × Roomy reply.old }
-    ensures { Calls (λ s. begin_of s (fields_with h.surface msg.now)) front sets store reply result }
+    ensures { Calls (reply_to begin_kind) (λ s. begin_of s (fields_with h.surface msg.now))
+        front sets store reply (Ok result) }
 {
-    let f = t.flags;
-    let over = f.over;
+    let over = t.flags.over;
     let neg = h.neg as usize;
     let pos = h.pos as usize;
     let lt = h.lt as usize;
-    let d = store::derive_and_mark_rps(store, l.k, over, pocs, hows, neg, pos, lt);
+    let d = store::derive_and_mark_rps(store, l.k, over, wishes, neg, pos, lt);
     let x = d.sizes;
-    let first = d.first;
-    let second = d.second;
-    let marked = d.store;
     let starts = over & !words::is_ended(front);
-    let m = store::update_dpb_before_decoding(store, marked, starts, f.prior, l);
-    derivation::members::put_members(sets, first, x.before + x.after + x.long);
+    let m = store::update_dpb_before_decoding(store, d.store, starts, t.flags.prior, l);
+    derivation::members::put_members(sets, d.first, x.before + x.after + x.long);
     let next = words::next_serial(front);
-    let a = replies::put_begun(reply, told_of(next, t), x, first, second, m);
+    let len = replies::put_begun(reply, told_of(next, t), x, d.first, d.second, m);
     words::put_begun(
         front,
         current_of(next, h, t),
         refs_of(x),
         next_after(next.0),
     );
-    a
+    len
 }
 
 // Step 3 of a begin whose POC lies in i32: reads what its entries ask for. Refused by 6, else goes on to step 4.
@@ -177,16 +159,19 @@ fn begin_at(
     h: BeginFields,
     t: Start,
     reply: &mut [u8],
-) -> Answer
+) -> Result<usize, Refusal>
     requires { Placed (session_in (memory front.old sets.old store.old)) msg.now l h t × Roomy reply.old }
-    ensures { Calls (λ s. begin_of s (fields_with h.surface msg.now)) front sets store reply result }
+    ensures { Calls (reply_to begin_kind) (λ s. begin_of s (fields_with h.surface msg.now))
+        front sets store reply result }
 {
-    let mut pocs = [0i32; Store::CAPACITY];
-    let mut hows = [0u8; Store::CAPACITY];
-    if !records::wishes(msg, h, l.k, t.poc, &mut pocs, &mut hows) {
-        return replies::refuse(reply, kinds::BEGUN, Refusal::Outside);
-    }
-    begun(front, sets, store, msg, l, h, t, &pocs, &hows, reply)
+    let none = Wish {
+        poc: 0,
+        used: false,
+        whole: false,
+    };
+    let mut wishes = [none; Store::CAPACITY];
+    records::wishes(msg, h, l.k, t.poc, &mut wishes)?;
+    Ok(begun(front, sets, store, msg, l, h, t, &wishes, reply))
 }
 
 // Steps 1 and 2 of a begin that none of 1, 3, 5, 8 and 7 refuses: flags and POC. Refused by 6, else goes on to step 3.
@@ -198,51 +183,51 @@ fn begin_inside(
     l: Limits,
     h: BeginFields,
     reply: &mut [u8],
-) -> Answer
+) -> Result<usize, Refusal>
     requires { Passed (session_in (memory front.old sets.old store.old)) msg.now l h × Roomy reply.old }
-    ensures { Calls (λ s. begin_of s (fields_with h.surface msg.now)) front sets store reply result }
+    ensures { Calls (reply_to begin_kind) (λ s. begin_of s (fields_with h.surface msg.now))
+        front sets store reply result }
 {
     let q = words::prev_in(front);
     let flags = flags_of(words::is_first(front), words::is_ended(front), h);
-    match poc::derive_poc(l.k, prev_for(flags.over, q), h.lsb) {
-        Poc::Outside => replies::refuse(reply, kinds::BEGUN, Refusal::Outside),
-        Poc::Val { msb, poc } => {
-            let t = Start { flags, msb, poc };
-            begin_at(front, sets, store, msg, l, h, t, reply)
-        }
-    }
+    let derived = poc::derive_poc(l.k, prev_for(flags.over, q), h.lsb)?;
+    let t = Start {
+        flags,
+        msb: derived.msb,
+        poc: derived.poc,
+    };
+    begin_at(front, sets, store, msg, l, h, t, reply)
 }
 
-// Begin, with the surface that the target says: refused by the first of "1, 3, 5, 8, 7, 6" that applies. The limits and
-// the fields of the record are read once and handed on.
+// Begin, with the surface that the caller chose, if one: refused by the first of "1, 3, 5, 8, 7, 6" that applies. The
+// limits and the fields of the record are read once and handed on.
 pub(crate) fn begin(
     front: &mut [u32; FRONT],
     sets: &mut [u32; Store::CAPACITY],
     store: &mut [u32; Store::WORDS],
-    target: Target,
+    surface: Option<Surface>,
     msg: &[u8],
     reply: &mut [u8],
-) -> Answer
+) -> Result<usize, Refusal>
     requires { Roomy reply.old }
-    ensures { Calls (λ s. begin_of s (fields_at target msg.now)) front sets store reply result }
+    ensures { Calls (reply_to begin_kind) (λ s. begin_of s (fields_at surface msg.now)) front sets store reply result }
 {
     if !words::is_configured(front) {
-        return replies::refuse(reply, kinds::BEGUN, Refusal::Unconfigured);
+        return Err(Refusal::Unconfigured);
     }
     if words::is_busy(front) {
-        return replies::refuse(reply, kinds::BEGUN, Refusal::Busy);
+        return Err(Refusal::Busy);
     }
     let l = words::limits_in(front);
-    let h = records::begin_fields(target, msg);
+    let h = records::begin_fields(surface, msg);
     if !records::begin_ranges(msg, h, l.k) {
-        return replies::refuse(reply, kinds::BEGUN, Refusal::OutOfRange);
+        return Err(Refusal::OutOfRange);
     }
     if words::next_serial(front).0 == Store::MISSING {
-        return replies::refuse(reply, kinds::BEGUN, Refusal::SerialsSpent);
+        return Err(Refusal::SerialsSpent);
     }
-    let surface = h.surface;
-    if store::holds_surface(store, surface) {
-        return replies::refuse(reply, kinds::BEGUN, Refusal::SurfaceHeld);
+    if store::holds_surface(store, h.surface) {
+        return Err(Refusal::SurfaceHeld);
     }
     begin_inside(front, sets, store, msg, l, h, reply)
 }

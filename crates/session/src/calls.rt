@@ -1,41 +1,34 @@
 // The calls after begin: finish, drain, configure, discard, end of sequence, abandon.
-ghost use Rattle.std.specs.Prelude.{◌≡◌, true, ◌&&◌, List, leb, length, ℕ, ◌<◌, min};
+ghost use Rattle.std.specs.Prelude.{◌≡◌, true, ◌&&◌, List, length, ℕ, ◌<◌};
 ghost use Rattle.paper.specs.Records.{limits_of};
 ghost use Rattle.paper.specs.State.{is_current};
-ghost use Rattle.paper.specs.declared.Now.TheVariants.{Idle, Is};
+ghost use Rattle.std.specs.Prelude.{None, Some, Ok};
+ghost use Rattle.paper.specs.Kinds.{configure_kind, finish_kind, drain_kind, discard_kind, end_kind, abandon_kind};
+ghost use Rattle.paper.specs.Kinds.{reply_to};
 ghost use Rattle.paper.specs.Calls.{prev_after, full};
 ghost use Rattle.paper.specs.Step.{configure_of, finish_of, drain_of, discard_of, end_of, abandon_of};
 ghost use Rattle.store.specs.StoreWords.{stored};
 ghost use Rattle.session.specs.View.{memory, session_in, now_at};
-ghost use Rattle.session.specs.Said.{CallsStore, CallsFront, Drains, Roomy};
+ghost use Rattle.session.specs.Said.{CallsStore, CallsFront, Drains, Roomy, reply_kind};
 
-use crate::{Answer, FRONT, Refusal, replies, words};
+use crate::{FRONT, Refusal, replies, words};
 use derivation::ranges;
-use format::{kinds, records};
-use paper::{Current, Limits, Now, Prev};
-use store::{Room, Store};
+use format::{Kind, records};
+use paper::{Current, Tid0};
+use store::Store;
 
 // The previous Tid0 picture once c is finished, where it was q before: "If valid .. it becomes the previous Tid0
 // picture."
-fn prev_after(q: Prev, c: Current) -> Prev
+fn prev_after(q: Option<Tid0>, c: Current) -> Option<Tid0>
     ensures { result ≡ prev_after q c }
 {
     if c.valid {
-        return Prev::Tid0 {
+        Some(Tid0 {
             lsb: c.lsb,
             msb: c.msb,
-        };
-    }
-    q
-}
-
-// Whether no further picture may be stored.
-fn is_full(store: &[u32; Store::WORDS], l: Limits) -> bool
-    ensures { result ≡ leb (min l.capacity 16) (length (stored store.now)) }
-{
-    match store::room_in(store, l) {
-        Room::Full => true,
-        Room::Enough => false,
+        })
+    } else {
+        q
     }
 }
 
@@ -45,18 +38,16 @@ fn finish_at(
     store: &mut [u32; Store::WORDS],
     c: Current,
     reply: &mut [u8],
-) -> Answer
-    requires { (now_at front.old ≡ Is c) × Roomy reply.old }
-    ensures { CallsStore finish_of front store reply result }
+) -> Result<usize, Refusal>
+    requires { (now_at front.old ≡ Some c) × Roomy reply.old }
+    ensures { CallsStore (reply_to finish_kind) finish_of front store reply result }
 {
     let l = words::limits_in(front);
-    if is_full(store, l) {
-        return replies::refuse(reply, kinds::FINISHED, Refusal::StoreFull);
-    }
+    store::room_in(store, l)?;
     let m = store::finish_picture(store, c, l);
     let q = words::prev_in(front);
     words::put_idle(front, prev_after(q, c));
-    replies::put_done(reply, kinds::FINISHED, m)
+    Ok(replies::put_done(reply, Kind::Finish, m))
 }
 
 // Finish (C.5.2.3): refused by 4 with no current picture, then by 9.
@@ -64,13 +55,13 @@ pub(crate) fn finish(
     front: &mut [u32; FRONT],
     store: &mut [u32; Store::WORDS],
     reply: &mut [u8],
-) -> Answer
+) -> Result<usize, Refusal>
     requires { Roomy reply.old }
-    ensures { CallsStore finish_of front store reply result }
+    ensures { CallsStore (reply_to finish_kind) finish_of front store reply result }
 {
     match words::now_in(front) {
-        Now::Idle => replies::refuse(reply, kinds::FINISHED, Refusal::NoCurrent),
-        Now::Is(c) => finish_at(front, store, c, reply),
+        None => Err(Refusal::NoCurrent),
+        Some(c) => finish_at(front, store, c, reply),
     }
 }
 
@@ -80,18 +71,18 @@ fn is_stuck(front: &[u32; FRONT], store: &[u32; Store::WORDS]) -> bool
         && full (session_in (memory front.now xs store.now))) }
 {
     let l = words::limits_in(front);
-    words::is_busy(front) & is_full(store, l)
+    words::is_busy(front) & store::room_in(store, l).is_err()
 }
 
-// A drain with no current picture: empties the store and writes a reply of kind `kind`.
+// A drain with no current picture: empties the store and writes the reply to a record of that kind.
 fn drain_idle(
     front: &mut [u32; FRONT],
     store: &mut [u32; Store::WORDS],
-    kind: u16,
+    kind: Kind,
     reply: &mut [u8],
-) -> Answer
-    requires { (now_at front.old ≡ Idle) × Roomy reply.old }
-    ensures { Drains kind front store reply result }
+) -> usize
+    requires { (now_at front.old ≡ None) × Roomy reply.old }
+    ensures { Drains (reply_kind kind) front store reply result }
 {
     let m = store::drain(store);
     let q = words::prev_in(front);
@@ -99,16 +90,16 @@ fn drain_idle(
     replies::put_done(reply, kind, m)
 }
 
-// A drain where c is the current picture: finishes it, empties the store and writes a reply of kind `kind`.
+// A drain where c is the current picture: finishes it, empties the store and writes the reply to a record of that kind.
 fn drain_current(
     front: &mut [u32; FRONT],
     store: &mut [u32; Store::WORDS],
     c: Current,
-    kind: u16,
+    kind: Kind,
     reply: &mut [u8],
-) -> Answer
-    requires { (now_at front.old ≡ Is c) × (length (stored store.old) < 16) × Roomy reply.old }
-    ensures { Drains kind front store reply result }
+) -> usize
+    requires { (now_at front.old ≡ Some c) × (length (stored store.old) < 16) × Roomy reply.old }
+    ensures { Drains (reply_kind kind) front store reply result }
 {
     let l = words::limits_in(front);
     let m = store::finish_and_drain(store, c, l);
@@ -117,20 +108,21 @@ fn drain_current(
     replies::put_done(reply, kind, m)
 }
 
-// A drain that nothing refuses: finishes a current picture, empties the store and writes a reply of kind `kind`.
+// A drain that nothing refuses: finishes a current picture, empties the store and writes the reply to a record of that
+// kind.
 fn drain_as(
     front: &mut [u32; FRONT],
     store: &mut [u32; Store::WORDS],
-    kind: u16,
+    kind: Kind,
     reply: &mut [u8],
-) -> Answer
+) -> usize
     requires { (is_current (now_at front.old) ≡ true → length (stored store.old) < 16)
         × Roomy reply.old }
-    ensures { Drains kind front store reply result }
+    ensures { Drains (reply_kind kind) front store reply result }
 {
     match words::now_in(front) {
-        Now::Idle => drain_idle(front, store, kind, reply),
-        Now::Is(c) => drain_current(front, store, c, kind, reply),
+        None => drain_idle(front, store, kind, reply),
+        Some(c) => drain_current(front, store, c, kind, reply),
     }
 }
 
@@ -139,14 +131,14 @@ pub(crate) fn drain(
     front: &mut [u32; FRONT],
     store: &mut [u32; Store::WORDS],
     reply: &mut [u8],
-) -> Answer
+) -> Result<usize, Refusal>
     requires { Roomy reply.old }
-    ensures { CallsStore drain_of front store reply result }
+    ensures { CallsStore (reply_to drain_kind) drain_of front store reply result }
 {
     if is_stuck(front, store) {
-        return replies::refuse(reply, kinds::DRAINED, Refusal::StoreFull);
+        return Err(Refusal::StoreFull);
     }
-    drain_as(front, store, kinds::DRAINED, reply)
+    Ok(drain_as(front, store, Kind::Drain, reply))
 }
 
 // Configure: refused by 2, then by 9. "Configure drains under the old limits, then takes the new and forgets the
@@ -156,21 +148,22 @@ pub(crate) fn configure(
     store: &mut [u32; Store::WORDS],
     msg: &[u8],
     reply: &mut [u8],
-) -> Answer
+) -> Result<usize, Refusal>
     requires { Roomy reply.old }
-    ensures { CallsStore (λ s. configure_of s (limits_of msg.now)) front store reply result }
+    ensures { CallsStore (reply_to configure_kind) (λ s. configure_of s (limits_of msg.now))
+        front store reply result }
 {
     let l = records::limits_of(msg);
     if !ranges::configure_ranges(l) {
-        return replies::refuse(reply, kinds::CONFIGURED, Refusal::BadLimits);
+        return Err(Refusal::BadLimits);
     }
     if is_stuck(front, store) {
-        return replies::refuse(reply, kinds::CONFIGURED, Refusal::StoreFull);
+        return Err(Refusal::StoreFull);
     }
-    let a = drain_as(front, store, kinds::CONFIGURED, reply);
-    words::put_idle(front, Prev::Nothing);
+    let len = drain_as(front, store, Kind::Configure, reply);
+    words::put_idle(front, None);
     words::put_limits(front, ranges::taken_limits(l));
-    a
+    Ok(len)
 }
 
 // Discard, which nothing refuses: "Discard throws away and releases the current picture first, then clears."
@@ -178,45 +171,45 @@ pub(crate) fn discard(
     front: &mut [u32; FRONT],
     store: &mut [u32; Store::WORDS],
     reply: &mut [u8],
-) -> Answer
+) -> usize
     requires { Roomy reply.old }
-    ensures { CallsStore discard_of front store reply result }
+    ensures { CallsStore (reply_to discard_kind) discard_of front store reply (Ok result) }
 {
     let x = words::now_in(front);
     let q = words::prev_in(front);
     let m = store::discard(store, x);
     words::put_idle(front, q);
-    replies::put_done(reply, kinds::DISCARDED, m)
+    replies::put_done(reply, Kind::Discard, m)
 }
 
 // End of sequence, which nothing refuses: the next begin is first after it.
-pub(crate) fn end(front: &mut [u32; FRONT], reply: &mut [u8]) -> Answer
+pub(crate) fn end(front: &mut [u32; FRONT], reply: &mut [u8]) -> usize
     requires { Roomy reply.old }
-    ensures { CallsFront end_of front reply result }
+    ensures { CallsFront (reply_to end_kind) end_of front reply (Ok result) }
 {
     words::put_ended(front);
-    replies::put_quiet(reply, kinds::ENDED)
+    replies::put_quiet(reply, Kind::End)
 }
 
 // Abandon where c is the current picture.
-fn abandon_at(front: &mut [u32; FRONT], c: Current, reply: &mut [u8]) -> Answer
-    requires { (now_at front.old ≡ Is c) × Roomy reply.old }
-    ensures { CallsFront abandon_of front reply result }
+fn abandon_at(front: &mut [u32; FRONT], c: Current, reply: &mut [u8]) -> usize
+    requires { (now_at front.old ≡ Some c) × Roomy reply.old }
+    ensures { CallsFront (reply_to abandon_kind) abandon_of front reply (Ok result) }
 {
     let m = store::abandon(c);
     let q = words::prev_in(front);
     words::put_idle(front, q);
-    replies::put_done(reply, kinds::ABANDONED, m)
+    replies::put_done(reply, Kind::Abandon, m)
 }
 
 // Abandon: refused by 4 with no current picture. "Abandon throws away and releases the current picture; marks and
 // outputs of its begin stay."
-pub(crate) fn abandon(front: &mut [u32; FRONT], reply: &mut [u8]) -> Answer
+pub(crate) fn abandon(front: &mut [u32; FRONT], reply: &mut [u8]) -> Result<usize, Refusal>
     requires { Roomy reply.old }
-    ensures { CallsFront abandon_of front reply result }
+    ensures { CallsFront (reply_to abandon_kind) abandon_of front reply result }
 {
     match words::now_in(front) {
-        Now::Idle => replies::refuse(reply, kinds::ABANDONED, Refusal::NoCurrent),
-        Now::Is(c) => abandon_at(front, c, reply),
+        None => Err(Refusal::NoCurrent),
+        Some(c) => Ok(abandon_at(front, c, reply)),
     }
 }

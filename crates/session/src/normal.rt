@@ -9,8 +9,7 @@ ghost use Rattle.session.specs.Laid.{limits_words, prev_words, now_words, Normal
 ghost use Rattle.session.specs.Laid.{words_from, flag_words, no_picture, current_words};
 
 use crate::{FRONT, words};
-use derivation::members;
-use paper::{Current, Now, Prev, Serial, Surface};
+use paper::{Current, Serial, Surface};
 use store::{Store, flag_word};
 
 // Whether the flags in front are written as flags are.
@@ -41,13 +40,11 @@ fn prev_laid(h: &[u32; FRONT]) -> bool
     ensures { Decides result (words_from h.now PREV 3 ≡ prev_words (prev_at h.now)) }
 {
     match words::prev_in(h) {
-        Prev::Nothing => {
-            (h[words::PREV] == 0) & (h[words::PREV_LSB] == 0) & (h[words::PREV_MSB] == 0)
-        }
-        Prev::Tid0 { lsb, msb } => {
-            let of_lsb = lsb as u32;
-            let of_msb = wire::bits(msb);
-            (h[words::PREV] == 1) & (h[words::PREV_LSB] == of_lsb) & (h[words::PREV_MSB] == of_msb)
+        None => { (h[words::PREV] == 0) & (h[words::PREV_LSB] == 0) & (h[words::PREV_MSB] == 0) }
+        Some(p) => {
+            (h[words::PREV] == 1)
+                & (h[words::PREV_LSB] == p.lsb as u32)
+                & (h[words::PREV_MSB] == wire::bits(p.msb))
         }
     }
 }
@@ -71,21 +68,14 @@ fn no_picture() -> Current
 fn current_is(h: &[u32; FRONT], flag: u32, c: Current) -> bool
     ensures { Decides result (words_from h.now CURRENT 8 ≡ current_words flag c) }
 {
-    let serial = c.serial;
-    let surface = c.surface;
-    let of_poc = wire::bits(c.poc);
-    let of_lsb = c.lsb as u32;
-    let of_msb = wire::bits(c.msb);
-    let of_output = flag_word(c.output);
-    let of_valid = flag_word(c.valid);
-    let names = (h[words::CURRENT] == flag)
-        & (h[words::SERIAL] == serial.0)
-        & (h[words::SURFACE] == surface.0);
-    let counts = names
-        & (h[words::POC] == of_poc)
-        & (h[words::LSB] == of_lsb)
-        & (h[words::MSB] == of_msb);
-    counts & (h[words::OUTPUT] == of_output) & (h[words::VALID] == of_valid)
+    (h[words::CURRENT] == flag)
+        & (h[words::SERIAL] == c.serial.0)
+        & (h[words::SURFACE] == c.surface.0)
+        & (h[words::POC] == wire::bits(c.poc))
+        & (h[words::LSB] == c.lsb as u32)
+        & (h[words::MSB] == wire::bits(c.msb))
+        & (h[words::OUTPUT] == flag_word(c.output))
+        & (h[words::VALID] == flag_word(c.valid))
 }
 
 // Whether the current picture, or that there is none, is written as such.
@@ -93,16 +83,9 @@ fn current_laid(h: &[u32; FRONT]) -> bool
     ensures { Decides result (words_from h.now CURRENT 8 ≡ now_words (now_at h.now)) }
 {
     match words::now_in(h) {
-        Now::Idle => current_is(h, 0, no_picture()),
-        Now::Is(c) => current_is(h, 1, c),
+        None => current_is(h, 0, no_picture()),
+        Some(c) => current_is(h, 1, c),
     }
-}
-
-// The number as one of 64 bits.
-fn wide(x: u32) -> usize
-    ensures { (result ≡ x) × (result < 4294967296) }
-{
-    x as usize
 }
 
 // Whether the sets have room for as many members as their sizes say.
@@ -110,9 +93,8 @@ fn sizes_laid(h: &[u32; FRONT]) -> bool
     ensures { Decides result
         (word h.now BEFORE + word h.now AFTER + word h.now LONG ≤ 16) }
 {
-    let before = wide(h[words::BEFORE]);
-    let after = wide(h[words::AFTER]);
-    before + after + wide(h[words::LONG]) <= Store::CAPACITY
+    let members = h[words::BEFORE] as usize + h[words::AFTER] as usize + h[words::LONG] as usize;
+    members <= Store::CAPACITY
 }
 
 // Whether the memory is a session in the normal form. Any words may be given; those of the sets do not matter.
@@ -123,8 +105,6 @@ pub fn is_normal(
 ) -> bool
     ensures { Decides result (NormalMemory (memory front.now sets.now store.now)) }
 {
-    words::count_front(*front);
-    members::count_sets(*sets);
     let rest = flags_laid(front)
         & limits_laid(front)
         & prev_laid(front)

@@ -1,7 +1,7 @@
 // `front`: the 23 words of a session beside its sets and its store. Here is the place of each, how it is read and how
 // it is written; no other file reads or writes one of them, but normal.rt, which looks how they are written.
 // FrontPlaces.antt names the same places for the contracts.
-ghost use Rattle.std.specs.Prelude.{◌≡◌, ◌%◌, length};
+ghost use Rattle.std.specs.Prelude.{◌≡◌};
 ghost use Rattle.paper.specs.Numbers.{a_serial};
 ghost use Rattle.paper.specs.State.{fresh as freshSession};
 ghost use Rattle.store.specs.StoreWords.{word, flag_of};
@@ -12,7 +12,7 @@ ghost use Rattle.session.specs.Laid.{front_words, front_of, front_words_of};
 
 use crate::FRONT;
 use derivation::ref_lists::Refs;
-use paper::{Current, Limits, Now, Prev, Serial, Surface};
+use paper::{Current, Limits, Serial, Surface, Tid0};
 use store::{flag_of, flag_word};
 
 // Words 0 to 3: whether configure was accepted, whether the next begin is first in the bitstream,
@@ -68,27 +68,6 @@ pub(crate) const AFTER: usize = 21;
 
 pub(crate) const LONG: usize = 22;
 
-// The low 8 bits of a word.
-fn low8(x: u32) -> u8
-    ensures { result ≡ x % 256 }
-{
-    (x % 256) as u8
-}
-
-// The low 16 bits of a word.
-fn low16(x: u32) -> u16
-    ensures { result ≡ x % 65536 }
-{
-    (x % 65536) as u16
-}
-
-// Proof helper: states that the array has 23 words; compiles to nothing.
-pub(crate) fn count_front(words: [u32; FRONT]) -> usize
-    ensures { (result ≡ 23) × (length words ≡ 23) }
-{
-    FRONT
-}
-
 // Whether configure was accepted.
 pub(crate) fn is_configured(h: &[u32; FRONT]) -> bool
     ensures { result ≡ flag_of (word h.now CONFIGURED) }
@@ -128,73 +107,62 @@ pub(crate) fn is_busy(h: &[u32; FRONT]) -> bool
 pub(crate) fn limits_in(h: &[u32; FRONT]) -> Limits
     ensures { result ≡ limits_at h.now }
 {
-    let k = low8(h[K]);
-    let capacity = low8(h[CAPACITY]);
-    let buffering = low8(h[BUFFERING]);
-    let reorder = low8(h[REORDER]);
-    let latency = low16(h[LATENCY]);
     Limits {
-        k,
-        capacity,
-        buffering,
-        reorder,
-        latency,
+        k: (h[K] % 256) as u8,
+        capacity: (h[CAPACITY] % 256) as u8,
+        buffering: (h[BUFFERING] % 256) as u8,
+        reorder: (h[REORDER] % 256) as u8,
+        latency: (h[LATENCY] % 65536) as u16,
     }
 }
 
 // The previous Tid0 picture.
-pub(crate) fn prev_in(h: &[u32; FRONT]) -> Prev
+pub(crate) fn prev_in(h: &[u32; FRONT]) -> Option<Tid0>
     ensures { result ≡ prev_at h.now }
 {
-    let is = flag_of(h[PREV]);
-    let lsb = low16(h[PREV_LSB]);
-    let msb = wire::signed(h[PREV_MSB]);
-    if is {
-        Prev::Tid0 { lsb, msb }
-    } else {
-        Prev::Nothing
+    if !flag_of(h[PREV]) {
+        return None;
     }
+    Some(Tid0 {
+        lsb: (h[PREV_LSB] % 65536) as u16,
+        msb: wire::signed(h[PREV_MSB]),
+    })
 }
 
 // What the words say of the current picture; it means nothing where no picture is current.
 fn current_in(h: &[u32; FRONT]) -> Current
     ensures { result ≡ current_at h.now }
 {
-    let poc = wire::signed(h[POC]);
-    let lsb = low16(h[LSB]);
-    let msb = wire::signed(h[MSB]);
-    let output = flag_of(h[OUTPUT]);
-    let valid = flag_of(h[VALID]);
     Current {
         serial: Serial(h[SERIAL]),
         surface: Surface(h[SURFACE]),
-        poc,
-        lsb,
-        msb,
-        output,
-        valid,
+        poc: wire::signed(h[POC]),
+        lsb: (h[LSB] % 65536) as u16,
+        msb: wire::signed(h[MSB]),
+        output: flag_of(h[OUTPUT]),
+        valid: flag_of(h[VALID]),
     }
 }
 
 // The current picture, or that there is none.
-pub(crate) fn now_in(h: &[u32; FRONT]) -> Now
+pub(crate) fn now_in(h: &[u32; FRONT]) -> Option<Current>
     ensures { result ≡ now_at h.now }
 {
-    let c = current_in(h);
-    if is_busy(h) { Now::Is(c) } else { Now::Idle }
+    if is_busy(h) {
+        Some(current_in(h))
+    } else {
+        None
+    }
 }
 
 // The sizes of the current picture's sets.
 pub(crate) fn refs_in(h: &[u32; FRONT]) -> Refs
     ensures { result ≡ refs_at h.now }
 {
-    let before = low8(h[BEFORE]);
-    let after = low8(h[AFTER]);
-    let long = low8(h[LONG]);
     Refs {
-        before,
-        after,
-        long,
+        before: (h[BEFORE] % 256) as u8,
+        after: (h[AFTER] % 256) as u8,
+        long: (h[LONG] % 256) as u8,
     }
 }
 
@@ -208,12 +176,11 @@ pub(crate) fn put_fresh(h: &mut [u32; FRONT])
 }
 
 // Writes that no picture is current and that q is the previous Tid0 picture.
-pub(crate) fn put_idle(h: &mut [u32; FRONT], q: Prev)
+pub(crate) fn put_idle(h: &mut [u32; FRONT], q: Option<Tid0>)
     ensures front { front_in h.new ≡ idle_front (front_in h.old) q }
     ensures words { (f : Front) → h.old ≡ front_words f
         → h.new ≡ front_words (idle_front f q) }
 {
-    count_front(*h);
     h[CURRENT] = 0;
     h[SERIAL] = 0;
     h[SURFACE] = 0;
@@ -226,15 +193,15 @@ pub(crate) fn put_idle(h: &mut [u32; FRONT], q: Prev)
     h[AFTER] = 0;
     h[LONG] = 0;
     match q {
-        Prev::Nothing => {
+        None => {
             h[PREV] = 0;
             h[PREV_LSB] = 0;
             h[PREV_MSB] = 0;
         }
-        Prev::Tid0 { lsb, msb } => {
+        Some(p) => {
             h[PREV] = 1;
-            h[PREV_LSB] = lsb as u32;
-            h[PREV_MSB] = wire::bits(msb);
+            h[PREV_LSB] = p.lsb as u32;
+            h[PREV_MSB] = wire::bits(p.msb);
         }
     }
 }
@@ -245,7 +212,6 @@ pub(crate) fn put_limits(h: &mut [u32; FRONT], l: Limits)
     ensures words { (f : Front) → h.old ≡ front_words f
         → h.new ≡ front_words (configured_front f l) }
 {
-    count_front(*h);
     h[CONFIGURED] = 1;
     h[K] = l.k as u32;
     h[CAPACITY] = l.capacity as u32;
@@ -261,15 +227,12 @@ pub(crate) fn put_begun(h: &mut [u32; FRONT], c: Current, x: Refs, next: u32)
     ensures words { (f : Front) → h.old ≡ front_words f
         → h.new ≡ front_words (begun_front f c x next) }
 {
-    count_front(*h);
-    let serial = c.serial;
-    let surface = c.surface;
     h[FIRST] = 0;
     h[ENDED] = 0;
     h[NEXT] = next;
     h[CURRENT] = 1;
-    h[SERIAL] = serial.0;
-    h[SURFACE] = surface.0;
+    h[SERIAL] = c.serial.0;
+    h[SURFACE] = c.surface.0;
     h[POC] = wire::bits(c.poc);
     h[LSB] = c.lsb as u32;
     h[MSB] = wire::bits(c.msb);
@@ -285,6 +248,5 @@ pub(crate) fn put_ended(h: &mut [u32; FRONT])
     ensures front { front_in h.new ≡ ended_front (front_in h.old) }
     ensures words { (f : Front) → h.old ≡ front_words f → h.new ≡ front_words (ended_front f) }
 {
-    count_front(*h);
     h[ENDED] = 1;
 }

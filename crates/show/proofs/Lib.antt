@@ -1,5 +1,5 @@
-pub mod Spelling
 pub mod Places
+pub mod Items
 pub mod Wording
 pub mod Lining
 pub mod Turning

@@ -1,14 +1,17 @@
 -- One line more behind those that are there.
-use Prim.Native.Nat.{ℕ, ◌+◌, ◌-◌, ◌≤◌, ◌<◌}
+use Prim.Native.Nat.{ℕ, ◌+◌, ◌-◌, ◌≤◌, ◌<◌, min}
 use mathlib.Core.Path.{◌≡◌, refl, sym, ap, ap₂, subst, ◌∙◌}
 use mathlib.Core.List.{List, [], ◌∷◌, ◌++◌, append_assoc, append-nil}
 use native.Mathlib.Omega.{arith}
+use lib.Dec.{ltb}
 use lib.ListN.{length, take, drop, length-drop}
 use lib.Seq.{length-take-le}
+use borrow.Author.Tests.{ltb-true, ltb-false}
 use Rattle.wire.specs.Bytes.{over}
 use Rattle.paper.specs.Words.{all_b}
 use Rattle.paper.specs.declared.Reading.{Reading}
 use Rattle.paper.specs.Reading.{further, further_all}
+use Rattle.paper.proofs.Bools.{split}
 use Rattle.paper.proofs.Again.{further_more}
 use Rattle.show.specs.Lines.{line_of, following}
 use Rattle.format.specs.Cut.{size_of, joined}
@@ -52,6 +55,10 @@ number_more n rs r = number_append n rs (r ∷ [])
 pub nothing_yet : (st : Reading) (n : ℕ) (input output : List ℕ) → Lines st n input st n 0 0 output output
 unfolding joined lines_of number_after further_all all_b
 nothing_yet st n input output = record { read = []; whole = refl; cut = refl; lines = put_none output; number = refl; reading = refl }
+
+-- the number behind n, which stays at the largest
+pub follows : {n r : ℕ} → n < 18446744073709551616 → r ≡ min (n + 1) 18446744073709551615 → r ≡ following n
+follows {n} h e = split (ltb n 18446744073709551615) (λ t. let k = ltb-true n 18446744073709551615 t in rw t (omega arith)) (λ t. let k = ltb-false n 18446744073709551615 t in rw t (omega arith))
 
 module _ {st on behind : Reading} {number next later len : ℕ} {input before output : List ℕ} (taken made n : ℕ) (after : List ℕ) (h : 0 < n) (e : n ≡ size_of (drop taken input)) (f : later ≡ following next)
     (q : behind ≡ further on (take (taken + n - taken) (drop taken input)))

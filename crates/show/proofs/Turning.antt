@@ -2,7 +2,7 @@
 use Prim.Native.Nat.{ℕ, ◌+◌, ◌-◌, ◌≤◌, ◌<◌}
 use mathlib.Core.Path.{◌≡◌, refl, sym, ap, subst, ◌∙◌}
 use mathlib.Core.List.{List, [], ◌++◌}
-use mathlib.Core.Bool.{Bool, true, false, not, not-not}
+use mathlib.Core.Bool.{true, false, not}
 use native.Mathlib.Omega.{arith}
 use lib.Dec.{ltb}
 use lib.ListN.{length, get_or, take, drop}
@@ -13,7 +13,7 @@ use Rattle.paper.specs.declared.Reading.{Reading}
 use Rattle.paper.specs.Reading.{further_all}
 use Rattle.format.specs.Cut.{size_of, joined}
 use Rattle.stream.specs.Laid.{Puts}
-use Rattle.stream.specs.declared.Read.{Read}
+use Rattle.stream.specs.Turns.{Read}
 use Rattle.stream.specs.Turns.{Fed, brought, shifted}
 use Rattle.format.proofs.Cutting.{some_cut, front_whole}
 use Rattle.format.proofs.Fitting.{within, no_size, room_left}
@@ -22,40 +22,42 @@ use Rattle.stream.proofs.Laying.{put_none}
 use Rattle.show.specs.declared.After.{After}
 use Rattle.show.specs.Lines.{rest_of}
 use Rattle.show.specs.Stream.{number_after, Lines}
-use Rattle.show.specs.Turns.{stopped_at, end_line, Last, FedBy, Turned}
+use Rattle.filter.specs.declared.Next.{Next}
+use Rattle.filter.specs.declared.Next.TheVariants.{More, End, Unread}
+use Rattle.filter.specs.Next.{is_more, is_unread, is_unwritten}
+use Rattle.show.specs.Turns.{end_line, Last, FedBy, Turned}
 use Rattle.show.proofs.Lining.{none_written}
 
 -- ---- the end of the input
 
-pub no_rest : {st : Reading} {next held : ℕ} {r : After} {output : List ℕ} → held ≡ 0 → r ≡ stopped_at st next held false → Last st next held output r output
-unfolding end_line
-no_rest {st} {next} {held} {r} {output} z e = rw e (record { same = (refl, refl, refl, refl, refl); line = rw (eq-eqb held 0 z) (put_none output) })
+-- what a turn gives that writes no more than the last line
+abbrev pub behind : Reading → ℕ → ℕ → ℕ → Next → After
+behind st number held made next = record { number = number; held = held; made = made; next = next; reading = st }
 
-pub a_rest : {st : Reading} {next held made : ℕ} {written output : List ℕ} (wrote : Bool) → (held ≡ 0 → ⊥) → made ≡ length (rest_of next held) → output ≡ over (rest_of next held) written
-    → Last st next held written (record { next = next; held = held; made = made; more = false; unread = false; unwritten = not wrote; reading = st }) output
+pub no_rest : {st : Reading} {number held : ℕ} {output : List ℕ} → held ≡ 0 → Last st number held output (behind st number held 0 End) output
 unfolding end_line
-a_rest {held = held} wrote n l e = record { same = (refl, refl, refl, refl, refl); line = rw (ne_eqb held 0 n) (record { long = l; bytes = e }) }
+no_rest {st} {number} {held} {output} z = record { same = (refl, refl, refl, refl, refl); line = rw (eq-eqb held 0 z) (put_none output) }
+
+pub a_rest : {st : Reading} {number held made : ℕ} {next : Next} {written output : List ℕ} → is_more next ≡ false → is_unread next ≡ false → (held ≡ 0 → ⊥) → made ≡ length (rest_of number held) → output ≡ over (rest_of number held) written
+    → Last st number held written (behind st number held made next) output
+unfolding end_line
+a_rest {held = held} m u n l e = record { same = (refl, refl, m, u, refl); line = rw (m, u, ne_eqb held 0 n) (record { long = l; bytes = e }) }
 
 -- ---- a turn that reads
 
-module _ {st : Reading} {next : ℕ} {r : Read} {written : List ℕ} (held : ℕ) where
-  pub fed_some : held < r.held → FedBy st next held r written (record { next = next; held = r.held; made = 0; more = true; unread = r.failed; unwritten = false; reading = st }) written
+module _ {st : Reading} {number : ℕ} {written : List ℕ} (held now : ℕ) where
+  pub fed_some : held < now → FedBy st number held (record { held = now; failed = false }) written (behind st number now 0 More) written
   unfolding end_line
-  fed_some h = record { same = (refl, refl, refl, refl); goes_on = sym (lt-ltb held r.held h); line = put_none written }
+  fed_some h = record { same = (refl, refl, refl, refl); goes_on = sym (lt-ltb held now h); line = put_none written }
 
-  module _ (n : r.held ≤ held) where
-    pub fed_unread : {a : After} → r.failed ≡ true → a ≡ stopped_at st next r.held true → FedBy st next held r written a written
-    unfolding end_line
-    fed_unread f e = rw e (record { same = (refl, refl, sym f, refl); goes_on = sym (le-ltb held r.held n); line = put_none written })
+  pub fed_last : {a : After} {output : List ℕ} → now ≤ held → Last st number now written a output → FedBy st number held (record { held = now; failed = false }) written a output
+  fed_last n l = record { same = (l.same.0, l.same.1, l.same.3, l.same.4); goes_on = l.same.2 ∙ sym (le-ltb held now n); line = l.line }
 
-    pub fed_last : {a : After} {output : List ℕ} → r.failed ≡ false → Last st next r.held written a output → FedBy st next held r written a output
-    fed_last f l = record { same = (l.same.0, l.same.1, l.same.3 ∙ sym f, l.same.4); goes_on = l.same.2 ∙ sym (le-ltb held r.held n); line = l.line }
+pub fed_unread : {st : Reading} {number : ℕ} {written : List ℕ} (held : ℕ) → FedBy st number held (record { held = held; failed = true }) written (behind st number held 0 Unread) written
+unfolding end_line
+fed_unread {written = written} held = record { same = (refl, refl, refl, refl); goes_on = sym (le-ltb held held (omega arith)); line = put_none written }
 
 -- ---- one turn
-
--- what the turn gives where it made lines
-abbrev pub gone : Reading → ℕ → ℕ → ℕ → Bool → After
-gone on next held made more = record { next = next; held = held; made = made; more = more; unread = false; unwritten = not more; reading = on }
 
 module _ {st on : Reading} {n next taken made : ℕ} {written middle : List ℕ} (held : ℕ) (before : List ℕ) (h : held ≤ length before)
     (l : Lines st n (take held before) on next taken made written middle) where
@@ -89,9 +91,9 @@ module _ {st on : Reading} {n next taken made : ℕ} {written middle : List ℕ}
       (rw e (f.within h), turned)
 
   -- the lines of some replies were made, and the rest moved to the start
-  pub lined : {after : List ℕ} (more : Bool) → (taken ≡ 0 → ⊥) → taken ≤ length (take held before) → after ≡ shifted before taken held
-      → Turned st n held before written (gone on next (held - taken) made more) after middle
-  lined {after} more some k e =
+  pub lined : {next' : Next} {after : List ℕ} → is_more next' ≡ not (is_unwritten next') → is_unread next' ≡ false → (taken ≡ 0 → ⊥) → taken ≤ length (take held before) → after ≡ shifted before taken held
+      → Turned st n held before written (behind on next (held - taken) made next') after middle
+  lined {after = after} m u some k e =
       let w = within held before h k in
       let s = some_cut l.read (take held before) l.cut k some in
       let f = front_whole taken l.read (take held before) l.whole l.cut s in
@@ -101,7 +103,7 @@ module _ {st on : Reading} {n next taken made : ℕ} {written middle : List ℕ}
         kept = taken_off (joined l.read) held before h w l.cut e;
         number = l.number;
         reading = l.reading;
-        lines = λ _. (s, none_brought held (held - taken) after (omega arith), l.lines, sym (not-not more), refl);
+        lines = λ _. (s, none_brought held (held - taken) after (omega arith), l.lines, m, u);
         reads = λ z. absurd (omega arith);
         room = λ z. absurd (omega arith);
       }

@@ -1,21 +1,23 @@
 -- The words of kinds and refusals, and the texts of a reply at their places.
-use Prim.Native.Nat.{ℕ, zero, suc, ◌+◌, ◌-◌, ◌*◌, ◌<◌}
+use Prim.Native.Nat.{ℕ, zero, suc, ◌+◌, ◌-◌, ◌*◌, ◌≤◌, ◌<◌}
 use mathlib.Core.Path.{◌≡◌, refl, sym, ap, ap₂, ◌∙◌}
 use mathlib.Core.List.{List, [], ◌++◌}
 use mathlib.Core.Bool.{Bool, true, false, cond}
 use native.Mathlib.Omega.{arith}
-use borrow.Author.Tests.{eq-eqb, ne_eqb}
+use borrow.Author.Tests.{eq-eqb, ne_eqb, le-leb}
 use lib.Dec.{ltb}
 use lib.ListN.{drop, get_or}
 use lib.Seq.{drop-drop}
 use mir.Val.{to_z}
 use mir.Syntax.{w32}
 use Rattle.paper.specs.Numbers.{u8, u16, u32, bit, serial_nos}
-use Rattle.paper.specs.Kinds.{configure_kind, begin_kind, lists_kind, finish_kind, drain_kind, discard_kind, end_kind, abandon_kind, reply_offset, reply_to, number_place, rest_place, word_width, begun_flags, begun_serial, begun_counts, begun_members, flags_place, serial_place, counts_place, members_place, lists_place}
+use Rattle.paper.specs.Kinds.{begin_kind, lists_kind, reply_offset, reply_to, number_place, rest_place, word_width, begun_flags, begun_serial, begun_counts, begun_members, flags_place, serial_place, counts_place, members_place, lists_place}
 use Rattle.paper.specs.Records.{kind_of}
+use Rattle.paper.proofs.Bools.{both, not_both}
 use Rattle.paper.specs.declared.Reading.{Reading}
 use Rattle.paper.specs.Ledger.{read_words, read_serials, read_tail, read_sets, read_begun, read_reply, set_words}
 use Rattle.paper.specs.WholeReply.{members_of, whole_reply}
+use Rattle.format.specs.Kind.{is_reply}
 use Rattle.stream.specs.Text.{ascii, decimal, integer}
 use Rattle.show.specs.Text.{serial_text}
 use Rattle.show.specs.Lists.{named, short_text, long_text}
@@ -36,12 +38,14 @@ other_kind (suc (suc (suc (suc (suc (suc (suc zero))))))) h1 h2 h3 h4 h5 h6 h7 h
 other_kind (suc (suc (suc (suc (suc (suc (suc (suc zero)))))))) h1 h2 h3 h4 h5 h6 h7 h8 = absurd (h8 refl)
 other_kind (suc (suc (suc (suc (suc (suc (suc (suc (suc n))))))))) h1 h2 h3 h4 h5 h6 h7 h8 = refl
 
-shifted : (k i : ℕ) → 0 < i → (k ≡ 256 + i → ⊥) → k - 256 ≡ i → ⊥
-shifted k i h n e = n (omega arith)
+-- the number of no kind's reply
+outside : (k : ℕ) → is_reply k ≡ false → (i : ℕ) → 0 < i → i ≤ 8 → k - 256 ≡ i → ⊥
+outside k h i a b e = not_both (is_reply k) (both (le-leb 257 k (omega arith)) (le-leb k 264 (omega arith))) h
 
-pub other_reply : (k : ℕ) → (k ≡ reply_to configure_kind → ⊥) → (k ≡ reply_to begin_kind → ⊥) → (k ≡ reply_to lists_kind → ⊥) → (k ≡ reply_to finish_kind → ⊥) → (k ≡ reply_to drain_kind → ⊥) → (k ≡ reply_to discard_kind → ⊥) → (k ≡ reply_to end_kind → ⊥) → (k ≡ reply_to abandon_kind → ⊥) → kind_word (k - 256) ≡ ascii "?"
-other_reply k h1 h2 h3 h4 h5 h6 h7 h8 =
-    other_kind (k - 256) (shifted k 1 (omega arith) h1) (shifted k 2 (omega arith) h2) (shifted k 3 (omega arith) h3) (shifted k 4 (omega arith) h4) (shifted k 5 (omega arith) h5) (shifted k 6 (omega arith) h6) (shifted k 7 (omega arith) h7) (shifted k 8 (omega arith) h8)
+pub no_reply : (k : ℕ) → is_reply k ≡ false → kind_word (k - 256) ≡ ascii "?"
+no_reply k h =
+    let o = outside k h in
+    other_kind (k - 256) (o 1 (omega arith) (omega arith)) (o 2 (omega arith) (omega arith)) (o 3 (omega arith) (omega arith)) (o 4 (omega arith) (omega arith)) (o 5 (omega arith) (omega arith)) (o 6 (omega arith) (omega arith)) (o 7 (omega arith) (omega arith)) (o 8 (omega arith) (omega arith))
 
 other_session : (n : ℕ) → (n ≡ 1 → ⊥) → (n ≡ 2 → ⊥) → (n ≡ 3 → ⊥) → (n ≡ 4 → ⊥) → (n ≡ 5 → ⊥) → (n ≡ 6 → ⊥) → (n ≡ 7 → ⊥) → (n ≡ 8 → ⊥) → (n ≡ 9 → ⊥) → (n ≡ 10 → ⊥) → (n ≡ 11 → ⊥) → (n ≡ 12 → ⊥) → (n ≡ 13 → ⊥) → (n ≡ 14 → ⊥) → get_or refusal_words n (ascii "unknown") ≡ ascii "unknown"
 other_session zero h1 h2 h3 h4 h5 h6 h7 h8 h9 h10 h11 h12 h13 h14 = refl

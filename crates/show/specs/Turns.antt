@@ -4,41 +4,40 @@ use Rattle.paper.specs.Words.{all_b}
 use Rattle.paper.specs.declared.Reading.{Reading}
 use Rattle.paper.specs.Reading.{opening, further_all}
 use Rattle.format.specs.Cut.{size_of, joined, is_whole, cut, parts}
-use Rattle.stream.specs.declared.Read.{Read}
+use Rattle.stream.specs.Turns.{Read}
 use Rattle.stream.specs.Laid.{Puts}
 use Rattle.stream.specs.Turns.{brought, Ran, through}
 use Rattle.show.specs.Lines.{rest_of}
 use Rattle.show.specs.Stream.{lines_of, number_after}
 use Rattle.show.specs.declared.After.{After}
+use Rattle.filter.specs.Next.{is_more, is_unread, is_unwritten}
 
--- the run ends with nothing written
-abbrev pub stopped_at : Reading → ℕ → ℕ → Bool → After
-stopped_at st next held unread =
-    record {
-      next = next;
-      held = held;
-      made = 0;
-      more = false;
-      unread = unread;
-      unwritten = false;
-      reading = st;
-    }
+-- whether the run goes on behind a turn, whether standard input could not be read, and whether standard output could
+-- not be written
+abbrev pub more : After → Bool
+more r = is_more r.next
+
+abbrev pub unread : After → Bool
+unread r = is_unread r.next
+
+abbrev pub unwritten : After → Bool
+unwritten r = is_unwritten r.next
 
 -- the line of a last reply that is incomplete: none while the run goes on, where the input could not be read, and where
 -- nothing waits
 unfoldable pub end_line : After → List ℕ
-end_line r = cond (r.more || r.unread || eqb r.held 0) [] (rest_of r.next r.held)
+end_line r = cond (more r || unread r || eqb r.held 0) [] (rest_of r.number r.held)
 
 -- the end of the input
 pub record Last (st : Reading) (next held : ℕ) (written : List ℕ) (r : After) (output : List ℕ) : Type 0 where
-  pub same : (r.next ≡ next) × (r.held ≡ held) × (r.more ≡ false) × (r.unread ≡ false) × (r.reading ≡ st)
+  pub same : (r.number ≡ next) × (r.held ≡ held) × (more r ≡ false) × (unread r ≡ false) × (r.reading ≡ st)
   pub line : Puts r.made (end_line r) written output
 
 -- what a turn gives that only read: the run goes on just where something was read, and else ends with the last line
 pub record FedBy (st : Reading) (next held : ℕ) (r : Read) (written : List ℕ) (a : After)
     (output : List ℕ) : Type 0 where
-  pub same : (a.next ≡ next) × (a.held ≡ r.held) × (a.unread ≡ r.failed) × (a.reading ≡ st)
-  pub goes_on : a.more ≡ ltb held r.held
+  pub same : (a.number ≡ next) × (a.held ≡ r.held) × (unread a ≡ r.failed) × (a.reading ≡ st)
+  pub goes_on : more a ≡ ltb held r.held
   pub line : Puts a.made (end_line a) written output
 
 -- One turn. `read` are the replies whose lines it makes. The first `made` bytes of the output are what it hands to
@@ -49,18 +48,18 @@ pub record Turned (st : Reading) (n held : ℕ) (before written : List ℕ) (r :
   pub whole : all_b is_whole read ≡ true
   -- no byte is lost: what waited, and behind it what was read, is these replies, and behind them what waits now
   pub kept : take held before ++ brought held r.held after ≡ joined read ++ take r.held after
-  pub number : r.next ≡ number_after n read
+  pub number : r.number ≡ number_after n read
   pub reading : r.reading ≡ further_all st read
   -- where a whole reply waits, the line of that one at least is made and nothing is read; the run goes on unless the
   -- lines could not be written
   pub lines : 0 < size_of (take held before)
       → (0 < length read) × (brought held r.held after ≡ []) × Puts r.made (lines_of st n read) written output
-      × (r.more ≡ not r.unwritten) × (r.unread ≡ false)
+      × (more r ≡ not (unwritten r)) × (unread r ≡ false)
   -- it reads on only where no whole reply waits, so that none is left behind without its line; the run goes on just
   -- where something was read, which a read that fails never does
   pub reads : size_of (take held before) ≡ 0
-      → (read ≡ []) × Puts r.made (end_line r) written output × (r.more ≡ ltb held r.held)
-      × (r.unread ≡ true → r.more ≡ false)
+      → (read ≡ []) × Puts r.made (end_line r) written output × (more r ≡ ltb held r.held)
+      × (unread r ≡ true → more r ≡ false)
   -- behind a reply that is not whole there is room, so no read fails for want of it
   pub room : size_of (take held before) ≡ 0 → held < length before
 
@@ -86,13 +85,13 @@ written_in b s = take s.after.made s.output
 
 -- a run starts with the first reply, read with what there is in front of it, and nothing waits
 abbrev pub Starts : Stand → Type 0
-Starts s = (s.after.next ≡ 1) × (s.after.held ≡ 0) × (s.after.more ≡ true) × (s.after.reading ≡ opening)
+Starts s = (s.after.number ≡ 1) × (s.after.held ≡ 0) × (more s.after ≡ true) × (s.after.reading ≡ opening)
 
 -- and goes on turn by turn
 abbrev pub Turns : Stand → Stand → Type 0
 Turns b s =
-    (b.after.more ≡ true)
-    × Turned b.after.reading b.after.next b.after.held b.input b.output s.after s.input
+    (more b.after ≡ true)
+    × Turned b.after.reading b.after.number b.after.held b.input b.output s.after s.input
     s.output
 
 -- THE WHOLE RUN: turns one after the other. R is what their reads brought, one behind the other, and W what they handed
@@ -106,6 +105,6 @@ pub record Shows (s : Stand) : Type 0 where
   pub handed : W ≡ through written_in turns s
   -- W IS THE LINES OF THE WHOLE REPLIES OF R, and then the line of what is left of it, where it ends because no more is
   -- read
-  pub all : s.after.more ≡ false → s.after.unwritten ≡ false
+  pub all : more s.after ≡ false → unwritten s.after ≡ false
       → (W ≡ lines_of opening 1 (cut R) ++ end_line s.after) × (waiting s ≡ (parts R).rest)
-      × (s.after.next ≡ number_after 1 (cut R)) × (s.after.reading ≡ further_all opening (cut R))
+      × (s.after.number ≡ number_after 1 (cut R)) × (s.after.reading ≡ further_all opening (cut R))

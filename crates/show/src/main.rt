@@ -7,15 +7,15 @@ mod lists;
 mod replies;
 
 ghost use Rattle.std.specs.Prelude.{◌≡◌, ◌+◌, ◌-◌, ◌≤◌, ◌<◌, length, drop};
-ghost use Rattle.show.specs.Lines.{following};
 ghost use Rattle.format.specs.Cut.{size_of};
 ghost use Rattle.show.specs.Stream.{Added, Lines};
-ghost use Rattle.show.specs.Turns.{stopped_at, Last, FedBy, Turned, standing, Shows};
+ghost use Rattle.stream.specs.Turns.{read_as};
+ghost use Rattle.show.specs.Turns.{Last, FedBy, Turned, standing, Shows};
 
+use filter::Next;
 use paper::Reading;
 use std::io;
 use std::io::{Read as Source, Write};
-use stream::Read;
 
 // A reply has at most 65,539 bytes, so there is always room to read on behind one that is not whole yet.
 const INPUT: usize = 131072;
@@ -36,24 +36,14 @@ struct Lined {
 }
 
 // The number of the next reply, how many bytes wait at the start of the input buffer, how many bytes of lines were
-// handed over to be written, whether the run goes on, whether standard input could not be read or standard output not
-// be written, and what the reader of the replies carries to the next one.
+// handed over to be written, what comes behind the turn, and what the reader of the replies carries to the next one.
 #[derive(Clone, Copy)]
 struct After {
-    next: u64,
+    number: u64,
     held: usize,
     made: usize,
-    more: bool,
-    unread: bool,
-    unwritten: bool,
+    next: Next,
     reading: Reading,
-}
-
-// The number behind this one. It stays at the largest, which no stream reaches.
-fn following(n: u64) -> u64
-    ensures { result ≡ following n }
-{
-    if n < u64::MAX { n + 1 } else { n }
 }
 
 // The line of one reply, behind the `made` bytes of the earlier ones.
@@ -64,7 +54,8 @@ fn line_at(st: Reading, number: u64, reply: &[u8], out: &mut [u8], made: usize) 
     replies::line(st, number, reply, &mut out[made..])
 }
 
-// The lines of the whole replies at the start of these bytes, one after the other, while there is room for a line.
+// The lines of the whole replies at the start of these bytes, one after the other, while there is room for a line. The
+// number stays at the largest of 64 bits, which no stream reaches.
 fn lines(st: Reading, number: u64, bytes: &[u8], out: &mut [u8]) -> Lined
     ensures within { (result.taken ≤ length bytes.now) × (result.made ≤ length out.new) }
     ensures lines { Lines st number bytes.now result.reading result.next result.taken result.made
@@ -76,20 +67,15 @@ fn lines(st: Reading, number: u64, bytes: &[u8], out: &mut [u8]) -> Lined
     let mut next = number;
     let mut taken = 0;
     let mut made = 0;
+    // Kept: each step is as long as a line, and there may be no whole reply, so no range or iterator gives them.
     while made + LINE <= out.len() {
-        let n = format::size(&bytes[taken..]);
-        if n == 0 {
-            return Lined {
-                next,
-                taken,
-                made,
-                reading,
-            };
-        }
+        let Some(n) = format::whole(&bytes[taken..]) else {
+            break;
+        };
         let e = taken + n;
         made += line_at(reading, next, &bytes[taken..e], out, made);
         reading = format::further(reading, &bytes[taken..e]);
-        next = following(next);
+        next = next.saturating_add(1);
         taken = e;
     }
     Lined {
@@ -100,107 +86,75 @@ fn lines(st: Reading, number: u64, bytes: &[u8], out: &mut [u8]) -> Lined
     }
 }
 
-// The end of the input: the last line, for the `held` bytes that are no whole reply, or none where nothing waits.
-fn last<W: Write>(sink: &mut W, st: Reading, next: u64, held: usize, output: &mut [u8]) -> After
+// The end of the input: the last line, for the bytes that wait and are no whole reply, or none where nothing waits.
+fn last<W: Write>(sink: &mut W, t: After, output: &mut [u8]) -> After
     requires { 28457 ≤ length output.old }
-    ensures { Last st next held output.old result output.new }
+    ensures { Last t.reading t.number t.held output.old result output.new }
 {
-    if held == 0 {
-        return stopped(st, next, held, false);
+    if t.held == 0 {
+        return After {
+            made: 0,
+            next: Next::End,
+            ..t
+        };
     }
-    let made = replies::rest(next, held, output);
-    let wrote = sink.write_all(&output[..made]).is_ok();
-    After {
-        next,
-        held,
-        made,
-        more: false,
-        unread: false,
-        unwritten: !wrote,
-        reading: st,
-    }
-}
-
-// The run ends with nothing written.
-fn stopped(st: Reading, next: u64, held: usize, unread: bool) -> After
-    ensures { result ≡ stopped_at st next held unread }
-{
-    After {
-        next,
-        held,
-        made: 0,
-        more: false,
-        unread,
-        unwritten: false,
-        reading: st,
-    }
+    let made = replies::rest(t.number, t.held, output);
+    let next = match sink.write_all(&output[..made]) {
+        Ok(()) => Next::End,
+        Err(_) => Next::Unwritten,
+    };
+    After { made, next, ..t }
 }
 
 // What a turn gives that only read: the run goes on where something was read, and else ends, with the last line unless
 // the read failed.
-fn fed<W: Write>(
-    sink: &mut W,
-    st: Reading,
-    next: u64,
-    held: usize,
-    r: Read,
-    output: &mut [u8],
-) -> After
+fn fed<W: Write>(sink: &mut W, t: After, read: io::Result<usize>, output: &mut [u8]) -> After
     requires { 28457 ≤ length output.old }
-    ensures { FedBy st next held r output.old result output.new }
+    ensures { FedBy t.reading t.number t.held (read_as t.held read) output.old result output.new }
 {
-    let now = r.held;
-    if held < now {
-        return After {
-            next,
-            held: now,
+    match read {
+        Ok(held) if t.held < held => After {
+            held,
             made: 0,
-            more: true,
-            unread: r.failed,
-            unwritten: false,
-            reading: st,
-        };
+            next: Next::More,
+            ..t
+        },
+        Ok(held) => last(sink, After { held, ..t }, output),
+        Err(_) => After {
+            made: 0,
+            next: Next::Unread,
+            ..t
+        },
     }
-    if r.failed {
-        return stopped(st, next, now, true);
-    }
-    last(sink, st, next, now, output)
 }
 
 // Writes the lines of what is whole; reads on only where nothing is whole, so that no line waits for input.
 fn turn<R: Source, W: Write>(
     source: &mut R,
     sink: &mut W,
-    st: Reading,
-    next: u64,
-    held: usize,
+    t: After,
     input: &mut [u8],
     output: &mut [u8],
 ) -> After
-    requires held_in_bounds { held ≤ length input.old }
+    requires held_in_bounds { t.held ≤ length input.old }
     requires in_bounds { (65539 ≤ length input.old) × (28457 ≤ length output.old) }
     ensures held_in_bounds_2 { result.held ≤ length input.new }
-    ensures turned { Turned st next held input.old output.old result input.new
+    ensures turned { Turned t.reading t.number t.held input.old output.old result input.new
         output.new }
 {
-    let l = lines(st, next, &input[..held], output);
-    let taken = l.taken;
-    if taken == 0 {
-        let r = stream::read_on(source, held, input);
-        return fed(sink, st, next, held, r, output);
+    let l = lines(t.reading, t.number, &input[..t.held], output);
+    if l.taken == 0 {
+        let read = stream::read_behind(source, t.held, input);
+        return fed(sink, t, read, output);
     }
-    let made = l.made;
-    let reading = l.reading;
-    let more = stream::write_front(sink, output, made).wrote;
-    stream::shift(input, taken, held);
+    let wrote = stream::write_front(sink, output, l.made).wrote;
+    stream::shift(input, l.taken, t.held);
     After {
-        next: l.next,
-        held: held - taken,
-        made,
-        more,
-        unread: false,
-        unwritten: !more,
-        reading,
+        number: l.next,
+        held: t.held - l.taken,
+        made: l.made,
+        next: if wrote { Next::More } else { Next::Unwritten },
+        reading: l.reading,
     }
 }
 
@@ -215,40 +169,30 @@ fn run<R: Source, W: Write>(
     ensures { Shows (standing result input.new output.new) }
 {
     let mut t = After {
-        next: 1,
+        number: 1,
         held: 0,
         made: 0,
-        more: true,
-        unread: false,
-        unwritten: false,
+        next: Next::More,
         reading: format::opening(),
     };
-    let mut left: u64 = 18446744073709551615;
-    while left > 0 {
-        let st = t.reading;
-        t = turn(source, sink, st, t.next, t.held, input, output);
-        left = stream::turns_left(left, t.more);
+    for _ in 0..u64::MAX {
+        t = turn(source, sink, t, input, output);
+        if t.next != Next::More {
+            break;
+        }
     }
     t
 }
 
-// What failed is named on standard error.
-fn finish<E: Eprint>(rt: &E, t: After) -> io::Result<()> {
-    if t.unread {
-        eprintln!(rt; "show: standard input can't be read")?;
-    }
-    if t.unwritten {
-        eprintln!(rt; "show: standard output can't be written")?;
-    }
-    Ok(())
-}
-
-// Both buffers are here, of one size for any length of input.
+// Both buffers are here, of one size for any length of input. What failed is named on standard error.
 fn main(rt: HostRuntime) -> io::Result<()> {
     let mut source = rt.stdin();
     let mut sink = rt.stdout();
     let mut input = [0u8; INPUT];
     let mut output = [0u8; OUTPUT];
     let t = run(&mut source, &mut sink, &mut input, &mut output);
-    finish(&rt, t)
+    if let Some(what) = t.next.failure() {
+        eprintln!(rt; "show: {what}")?;
+    }
+    Ok(())
 }

@@ -12,51 +12,52 @@ ghost use Rattle.show.specs.Lines.{kind_word, refusal_word, refused_text, done_t
 ghost use Rattle.show.specs.Lines.{begun_at, damaged_text, said_text, line_of, rest_of};
 
 use crate::lists;
-use format::kinds;
+use crate::lists::Item;
+use format::{Kind, kinds};
 use paper::Reading;
 use stream::text;
 use wire::flag_bytes;
 
-// What a record of that reply kind is called; a question mark for any other, as every 13 has.
-fn put_kind(d: &mut [u8], at: usize, kind: u16) -> usize
-    requires { at + 9 ≤ length d.old }
-    ensures { Wrote d.old at (kind_word (kind - reply_offset)) 9 result d.new }
+// What the record of that reply kind is called; a question mark where none has it, as for every 13.
+#[tactic(auto, using(crate::proofs::Wording::no_reply), unfolding(crate::specs::Lines::kind_word))]
+fn kind_word(kind: u16) -> &'static [u8]
+    ensures { (result.now ≡ kind_word (kind - reply_offset)) × (length result.now ≤ 9) }
 {
-    match kind {
-        kinds::CONFIGURED => text::put(d, at, b"configure"),
-        kinds::BEGUN => text::put(d, at, b"begin"),
-        kinds::LISTED => text::put(d, at, b"lists"),
-        kinds::FINISHED => text::put(d, at, b"finish"),
-        kinds::DRAINED => text::put(d, at, b"drain"),
-        kinds::DISCARDED => text::put(d, at, b"discard"),
-        kinds::ENDED => text::put(d, at, b"end"),
-        kinds::ABANDONED => text::put(d, at, b"abandon"),
-        _ => text::put(d, at, b"?"),
+    match Kind::of_reply(kind) {
+        Some(Kind::Configure) => b"configure",
+        Some(Kind::Begin) => b"begin",
+        Some(Kind::Lists) => b"lists",
+        Some(Kind::Finish) => b"finish",
+        Some(Kind::Drain) => b"drain",
+        Some(Kind::Discard) => b"discard",
+        Some(Kind::End) => b"end",
+        Some(Kind::Abandon) => b"abandon",
+        None => b"?",
     }
 }
 
 // A word for each number a session says no with, and for that of a pool, 18.
-fn put_reason(d: &mut [u8], at: usize, number: u16) -> usize
-    requires { at + 16 ≤ length d.old }
-    ensures { Wrote d.old at (refusal_word number) 16 result d.new }
+#[tactic(auto, using(crate::proofs::Wording::other_refusal), unfolding(crate::specs::Lines::refusal_word))]
+fn refusal_word(number: u16) -> &'static [u8]
+    ensures { (result.now ≡ refusal_word number) × (length result.now ≤ 16) }
 {
     match number {
-        1 => text::put(d, at, b"not-configured"),
-        2 => text::put(d, at, b"bad-limits"),
-        3 => text::put(d, at, b"picture-current"),
-        4 => text::put(d, at, b"no-current"),
-        5 => text::put(d, at, b"out-of-range"),
-        6 => text::put(d, at, b"outside-i32"),
-        7 => text::put(d, at, b"surface-held"),
-        8 => text::put(d, at, b"serials-spent"),
-        9 => text::put(d, at, b"store-full"),
-        10 => text::put(d, at, b"no-candidate"),
-        11 => text::put(d, at, b"too-many"),
-        12 => text::put(d, at, b"bad-entry"),
-        13 => text::put(d, at, b"malformed"),
-        14 => text::put(d, at, b"no-room"),
-        18 => text::put(d, at, b"none-free"),
-        _ => text::put(d, at, b"unknown"),
+        1 => b"not-configured",
+        2 => b"bad-limits",
+        3 => b"picture-current",
+        4 => b"no-current",
+        5 => b"out-of-range",
+        6 => b"outside-i32",
+        7 => b"surface-held",
+        8 => b"serials-spent",
+        9 => b"store-full",
+        10 => b"no-candidate",
+        11 => b"too-many",
+        12 => b"bad-entry",
+        13 => b"malformed",
+        14 => b"no-room",
+        18 => b"none-free",
+        _ => b"unknown",
     }
 }
 
@@ -68,11 +69,11 @@ fn put_refused(d: &mut [u8], at: usize, reply: &[u8]) -> usize
 {
     let number = wire::u16_at(reply, kinds::NUMBER_PLACE);
     let a = text::put(d, at, b"refused ");
-    let b = put_kind(d, a, wire::u16_at(reply, kinds::KIND_PLACE));
+    let b = text::put(d, a, kind_word(wire::u16_at(reply, kinds::KIND_PLACE)));
     let c = text::put(d, b, b" ");
     let e = text::put_u32(d, c, number as u32);
     let f = text::put(d, e, b" ");
-    put_reason(d, f, number)
+    text::put(d, f, refusal_word(number))
 }
 
 // An accepted record that has a tail alone.
@@ -83,7 +84,7 @@ fn put_done(d: &mut [u8], at: usize, st: Reading, reply: &[u8]) -> usize
         result d.new }
 {
     let a = text::put(d, at, b"done ");
-    let b = put_kind(d, a, wire::u16_at(reply, kinds::KIND_PLACE));
+    let b = text::put(d, a, kind_word(wire::u16_at(reply, kinds::KIND_PLACE)));
     lists::put_tail(d, b, st, reply, kinds::REST_PLACE)
 }
 
@@ -93,14 +94,14 @@ fn put_flags(d: &mut [u8], at: usize, flags: u8) -> usize
     ensures { Wrote d.old at
         (flags_text flags (bit 0 flags) (bit 1 flags) (bit 2 flags) (bit 3 flags)) 28 result d.new }
 {
-    if !flag_bytes::spare4(flags) {
+    if !flag_bytes::spare::<4>(flags) {
         let a = text::put(d, at, b" flags=");
         return text::put_u32(d, a, flags as u32);
     }
-    let a = text::put_if(d, at, flag_bytes::bit0(flags), b" norasl");
-    let b = text::put_if(d, a, flag_bytes::bit1(flags), b" output");
-    let c = text::put_if(d, b, flag_bytes::bit2(flags), b" valid");
-    text::put_if(d, c, flag_bytes::bit3(flags), b" noprior")
+    let a = text::put_if(d, at, flag_bytes::bit::<0>(flags), b" norasl");
+    let b = text::put_if(d, a, flag_bytes::bit::<1>(flags), b" output");
+    let c = text::put_if(d, b, flag_bytes::bit::<2>(flags), b" valid");
+    text::put_if(d, c, flag_bytes::bit::<3>(flags), b" noprior")
 }
 
 // "POC i32, flags u8, .. serial u32" of a begun picture.
@@ -130,28 +131,28 @@ fn put_short(d: &mut [u8], at: usize, reply: &[u8]) -> usize
         d,
         at,
         b" before=",
+        Item::Serial,
         reply,
         kinds::MEMBERS_PLACE,
         before,
-        true,
     );
     let b = lists::put_list(
         d,
         a,
         b" after=",
+        Item::Serial,
         reply,
         kinds::MEMBERS_PLACE + kinds::WORD * before,
         after,
-        true,
     );
     lists::put_list(
         d,
         b,
         b" foll=",
+        Item::Serial,
         reply,
         kinds::MEMBERS_PLACE + kinds::WORD * (before + after),
         foll,
-        true,
     )
 }
 
@@ -175,15 +176,15 @@ fn put_long(d: &mut [u8], at: usize, reply: &[u8]) -> usize
     let from = kinds::MEMBERS_PLACE + kinds::WORD * short_members(reply);
     let curr = wire::byte(reply, kinds::LT_CURR_PLACE) as usize;
     let foll = wire::byte(reply, kinds::LT_FOLL_PLACE) as usize;
-    let a = lists::put_list(d, at, b" ltcurr=", reply, from, curr, true);
+    let a = lists::put_list(d, at, b" ltcurr=", Item::Serial, reply, from, curr);
     lists::put_list(
         d,
         a,
         b" ltfoll=",
+        Item::Serial,
         reply,
         from + kinds::WORD * curr,
         foll,
-        true,
     )
 }
 
@@ -220,15 +221,15 @@ fn put_lists(d: &mut [u8], at: usize, reply: &[u8]) -> usize
     let n = wire::byte(reply, kinds::LENGTH0_PLACE) as usize;
     let m = wire::byte(reply, kinds::LENGTH1_PLACE) as usize;
     let a = text::put(d, at, b"lists");
-    let b = lists::put_list(d, a, b" l0=", reply, kinds::LISTS_PLACE, n, true);
+    let b = lists::put_list(d, a, b" l0=", Item::Serial, reply, kinds::LISTS_PLACE, n);
     lists::put_list(
         d,
         b,
         b" l1=",
+        Item::Serial,
         reply,
         kinds::LISTS_PLACE + kinds::WORD * n,
         m,
-        true,
     )
 }
 
@@ -255,10 +256,10 @@ fn put_reply(d: &mut [u8], at: usize, st: Reading, reply: &[u8]) -> usize
         return put_refused(d, at, reply);
     }
     let kind = wire::u16_at(reply, kinds::KIND_PLACE);
-    if kind == kinds::BEGUN {
+    if kind == Kind::Begin.reply() {
         return put_begun(d, at, st, reply);
     }
-    if kind == kinds::LISTED {
+    if kind == Kind::Lists.reply() {
         return put_lists(d, at, reply);
     }
     put_done(d, at, st, reply)

@@ -22,19 +22,16 @@ use Rattle.paper.specs.declared.Surface.{Surface}
 use Rattle.paper.specs.declared.Picture.{Picture}
 use Rattle.paper.specs.declared.Limits.{Limits}
 use Rattle.paper.specs.declared.Current.{Current}
-use Rattle.paper.specs.declared.Now.TheVariants.{Idle, Is}
 use Rattle.store.specs.Walks.{serial_of, surface_of}
 use Rattle.store.specs.Places.{place_at, front}
-use Rattle.store.specs.Tails.{HoldsHanded, HoldsThrown, HoldsReleased, GoodReleased, released_in, HoldsTail, GoodTail, HoldsMoved, GoodMoved, HoldsParts, started_in, moved_by, waits, unused, Releases, Throws, Follows}
+use Rattle.store.specs.Tails.{Handed, Thrown, Released, HoldsHanded, HoldsThrown, HoldsReleased, GoodReleased, released_in, HoldsTail, GoodTail, HoldsMoved, GoodMoved, HoldsParts, started_in, moved_by, waits, unused, Releases, Throws, Follows}
 use Rattle.store.specs.Bumps.{Scans, due_now, turns_by}
-use Rattle.store.specs.declared.Handed.{Handed}
-use Rattle.store.specs.declared.Thrown.{Thrown}
-use Rattle.store.specs.declared.Released.{Released}
 use Rattle.store.specs.declared.Moved.{Moved}
 use Rattle.store.specs.declared.bumping.Scan.{Scan}
 use Rattle.store.specs.declared.bumping.Rule.TheVariants.{All, Due}
 use Rattle.store.proofs.Moves.{moves, then_still, then_same}
 use Rattle.store.proofs.Rounds.{turns_none}
+use Rattle.std.proofs.Common.{None, Some}
 
 -- ---- a store and what has gone of it
 
@@ -195,16 +192,16 @@ drops_one c = split c.output (λ e. rw e (omega arith)) (λ e. rw e (omega arith
 -- ---- the definitions, case by case
 
 module _ (ps : List Picture) where
-  pub discard_idle : discarded ps Idle ≡ and_then (still ps) cleared
+  pub discard_idle : discarded ps None ≡ and_then (still ps) cleared
   unfolding discarded cleared
   discard_idle = refl
 
-  pub discard_is : (c : Current) → discarded ps (Is c) ≡ and_then (record { pics = ps; tail = dropped c }) cleared
+  pub discard_is : (c : Current) → discarded ps (Some c) ≡ and_then (record { pics = ps; tail = dropped c }) cleared
   unfolding discarded cleared
   discard_is c = refl
 
   module _ (l : Limits) where
-    pub drain_idle : drained l ps Idle ≡ emptied ps
+    pub drain_idle : drained l ps None ≡ emptied ps
     unfolding drained
     drain_idle = refl
 

@@ -7,22 +7,23 @@ use mathlib.Core.List.{List, [], ◌∷◌, ◌++◌, map, append-nil, append_as
 use native.Mathlib.Omega.{arith}
 use native.Mathlib.Numerals.{add-one}
 use lib.Dec.{eqb}
-use lib.ListN.{length, get_or, set, length-set}
-use lib.Seq.{get_or-set_same, get_or-set_other, set-get_or}
+use lib.ListN.{length, get_or, set, length-set, take, drop, length-take, take-append-drop, get_or-append}
+use lib.Seq.{get_or-set_same, get_or-set_other, set-append_left}
 use borrow.Author.Tests.{eqb-true, eqb-false}
 use Rattle.paper.proofs.Bools.{split}
 use Rattle.paper.specs.Words.{table, keep}
-use Rattle.paper.specs.Numbers.{bit}
 use Rattle.paper.specs.Sets.{is_in, marked}
 use Rattle.paper.specs.declared.Mark.{Mark}
 use Rattle.paper.specs.declared.Serial.{Serial}
 use Rattle.paper.specs.declared.Picture.{Picture}
+use Rattle.paper.specs.declared.Wish.{Wish}
 use Rattle.derivation.specs.Pad.{Padded}
 use Rattle.derivation.specs.Lists.{blank_serial, member_at}
 use Rattle.derivation.proofs.Pad.{is_push}
 use Rattle.store.specs.Walks.{blank}
 use Rattle.store.specs.Places.{place_at, front}
-use Rattle.store.specs.Runs.{filled, changed, marking, HoldsRuns, GoodRuns, used_in, rest_in, picked, used_at, unused_at}
+use Rattle.store.specs.Tails.{pushed}
+use Rattle.store.specs.Runs.{filled, changed, marking, HoldsRuns, GoodRuns, used_in, rest_in, picked, wish_at, used_at, unused_at}
 use Rattle.store.specs.declared.sets.Runs.{Runs}
 use Rattle.store.proofs.StoreWords.{table_same, table_map}
 
@@ -68,10 +69,6 @@ module _ {A : Type 0} (d : A) (g : A → A) (xs : List A) where
   unfolding changed
   changed_more i r x e h = rw (add-one i, h, e)
 
-  -- a place that the change leaves as it is
-  pub changed_same : (i : ℕ) (r : List A) → r ≡ changed d g i xs → get_or r i d ≡ g (get_or r i d) → r ≡ changed d g (i + 1) xs
-  changed_same i r e h = sym (set-get_or r i d) ∙ changed_more i r (get_or r i d) e h
-
   pub changed_length : (n : ℕ) → length (changed d g n xs) ≡ length xs
   unfolding changed
   changed_length zero = refl
@@ -91,6 +88,18 @@ module _ {A : Type 0} (d : A) (g : A → A) (xs : List A) where
       split (eqb j n)
       (λ e. let x : j ≡ n = eqb-true j n e in rw x (get_or-set_same ys n (g (get_or ys n d)) d room ∙ ap g (changed_rest n n (omega arith))))
       (λ e. let o = eqb-false j n e in get_or-set_other ys n j (g (get_or ys n d)) d o ∙ changed_at n j (omega arith) (omega arith))
+
+-- the change of the first m places is a change of the whole
+module _ {A : Type 0} (d : A) (g : A → A) (xs : List A) (m : ℕ) (few : m ≤ length xs) where
+  pub changed_front : (n : ℕ) → n ≤ m → changed d g n (take m xs) ++ drop m xs ≡ changed d g n xs
+  unfolding changed
+  changed_front zero le = take-append-drop m xs
+  changed_front (suc n) le =
+      let ys = changed d g n (take m xs) in
+      let zs = drop m xs in
+      let room : n < length ys = omega (arith, changed_length d g (take m xs) n, length-take m xs) in
+      sym (set-append_left ys zs n (g (get_or ys n d)) room) ∙ ap (λ (a : A). set (ys ++ zs) n (g a)) (sym (get_or-append ys zs d n room))
+      ∙ ap (λ (l : List A). set l n (g (get_or l n d))) (changed_front n (omega arith))
 
 -- the pictures at the places that a walk changed
 pub front_changed : (g : Picture → Picture) (ps : List Picture) (n : ℕ) → n ≤ length ps → front (changed blank g n ps) n ≡ map g (front ps n)
@@ -139,15 +148,15 @@ picked_is b f p q w (suc n) hb hf =
 -- ---- what entries found, joined to two runs
 
 -- i of them, from a place on, joined the runs of x
-pub record Parted (found : List Serial) (hows : List ℕ) (from : ℕ) (x : Runs) (i : ℕ) (r : Runs) : Type 0 where
-  pub few : r.used + r.rest ≡ x.used + x.rest + i
-  pub used : x.used ≤ r.used
-  pub rest : x.rest ≤ r.rest
-  pub holds : HoldsRuns r (used_in x ++ used_at found hows from i) (rest_in x ++ unused_at found hows from i)
+pub record Parted (found : List Serial) (ws : List Wish) (from : ℕ) (x : Runs) (i : ℕ) (r : Runs) : Type 0 where
+  pub few : r.used.len + r.rest.len ≡ x.used.len + x.rest.len + i
+  pub used : x.used.len ≤ r.used.len
+  pub rest : x.rest.len ≤ r.rest.len
+  pub holds : HoldsRuns r (used_in x ++ used_at found ws from i) (rest_in x ++ unused_at found ws from i)
 
-pub parted_none : (found : List Serial) (hows : List ℕ) (from : ℕ) {x : Runs} → GoodRuns x → Parted found hows from x 0 x
-parted_none found hows from {x} g =
-    let b : ℕ → Bool = λ i. bit 0 (get_or hows (from + i) 0) in
+pub parted_none : (found : List Serial) (ws : List Wish) (from : ℕ) {x : Runs} → GoodRuns x → Parted found ws from x 0 x
+parted_none found ws from {x} g =
+    let b : ℕ → Bool = λ i. (wish_at ws (from + i)).used in
     let f : ℕ → Serial = λ i. member_at found (from + i) in
     let n : ℕ → Bool = λ i. not (b i) in
     record {
@@ -160,9 +169,9 @@ parted_none found hows from {x} g =
       };
     }
 
-module _ {found : List Serial} {hows : List ℕ} {from : ℕ} {x : Runs} {i : ℕ} {r : Runs} (h : Parted found hows from x i r) where
+module _ {found : List Serial} {ws : List Wish} {from : ℕ} {x : Runs} {i : ℕ} {r : Runs} (h : Parted found ws from x i r) where
   abbrev is_used : ℕ → Bool
-  is_used j = bit 0 (get_or hows (from + j) 0)
+  is_used j = (wish_at ws (from + j)).used
 
   abbrev not_used : ℕ → Bool
   not_used j = not (is_used j)
@@ -186,8 +195,8 @@ module _ {found : List Serial} {hows : List ℕ} {from : ℕ} {x : Runs} {i : �
       ap (λ (l : List Serial). bs ++ l) (sym (picked_more b gives i ∙ rw e (append-nil (picked b gives i)))) in
       rw all at g
 
-  pub parted_used : r.used + r.rest < 16 → is_used i ≡ true
-      → Parted found hows from x (i + 1) (record { first = set r.first r.used (gives i); used = r.used + 1; second = r.second; rest = r.rest })
+  pub parted_used : r.used.len + r.rest.len < 16 → is_used i ≡ true
+      → Parted found ws from x (i + 1) (record { used = pushed r.used (gives i); rest = r.rest })
   parted_used lt e =
       let few = h.few in
       let u = h.used in
@@ -197,13 +206,13 @@ module _ {found : List Serial} {hows : List ℕ} {from : ℕ} {x : Runs} {i : �
         used = omega arith;
         rest = omega arith;
         holds = record {
-          first = run_more is_used r.first r.used (used_in x) h.holds.first (omega arith) e;
-          second = run_same not_used r.second r.rest (rest_in x) h.holds.second (ap not e);
+          first = run_more is_used r.used.items r.used.len (used_in x) h.holds.first (omega arith) e;
+          second = run_same not_used r.rest.items r.rest.len (rest_in x) h.holds.second (ap not e);
         };
       }
 
-  pub parted_rest : r.used + r.rest < 16 → is_used i ≡ false
-      → Parted found hows from x (i + 1) (record { first = r.first; used = r.used; second = set r.second r.rest (gives i); rest = r.rest + 1 })
+  pub parted_rest : r.used.len + r.rest.len < 16 → is_used i ≡ false
+      → Parted found ws from x (i + 1) (record { used = r.used; rest = pushed r.rest (gives i) })
   parted_rest lt e =
       let few = h.few in
       let u = h.used in
@@ -213,7 +222,7 @@ module _ {found : List Serial} {hows : List ℕ} {from : ℕ} {x : Runs} {i : �
         used = omega arith;
         rest = omega arith;
         holds = record {
-          first = run_same is_used r.first r.used (used_in x) h.holds.first e;
-          second = run_more not_used r.second r.rest (rest_in x) h.holds.second (omega arith) (ap not e);
+          first = run_same is_used r.used.items r.used.len (used_in x) h.holds.first e;
+          second = run_more not_used r.rest.items r.rest.len (rest_in x) h.holds.second (omega arith) (ap not e);
         };
       }

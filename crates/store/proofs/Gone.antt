@@ -1,14 +1,16 @@
 -- Pictures that leave: those kept move up, place after place, and no place is written before it is read. What is taken
 -- out of the pictures of a walk stands behind what stood there. Assumes nothing.
-use Prim.Native.Nat.{ℕ, ◌+◌, ◌≤◌, ◌<◌}
+use Prim.Native.Nat.{ℕ, ◌+◌, ◌-◌, ◌≤◌, ◌<◌}
 use mathlib.Core.Path.{◌≡◌, refl, sym, ap, ◌∙◌}
 use mathlib.Core.Bool.{Bool, true, false}
 use mathlib.Core.List.{List, [], ◌∷◌, ◌++◌, append-nil, append_assoc, map, map-append}
 use native.Mathlib.Omega.{arith}
-use lib.ListN.{length, get_or, set, length-set}
+use lib.ListN.{length, set, length-set, take, drop, replicate, length-take, length-append}
+use lib.Seq.{paste, drop-append-add}
+use Rattle.std.proofs.lemmas.List.{drop-replicate}
+use Rattle.std.proofs.lemmas.List.Edits.{paste_all}
 use Rattle.derivation.specs.Pad.{Padded, used}
-use Rattle.derivation.proofs.Pad.{is_push}
-use Rattle.paper.proofs.Places.{take_more}
+use Rattle.derivation.proofs.Pad.{is_push, is_view}
 use Rattle.paper.specs.Words.{table, keep}
 use Rattle.paper.specs.declared.Picture.{Picture}
 use Rattle.store.specs.Places.{place_at, front}
@@ -93,20 +95,22 @@ module _ {A : Type 0} {n : ℕ} {d : A} {f : Picture → Bool} {g : Picture → 
 
 -- ---- the places of one array behind a list
 
--- the first i of b, behind a list that k places held
-pub record Joined {A : Type 0} (n : ℕ) (d : A) (b l : List A) (k : ℕ) (a : List A) (m i : ℕ) : Type 0 where
-  pub long : m ≡ k + i
-  pub holds : Padded n d a m (l ++ used i b)
-
-pub joined_none : {A : Type 0} {n : ℕ} {d : A} (b : List A) {l a : List A} {k : ℕ} → Padded n d a k l → Joined n d b l k a k 0
+-- a part of b, copied behind a list that k places hold
+pub joined : {A : Type 0} {n : ℕ} {d : A} {a l : List A} {k : ℕ} (b : List A) (m : ℕ) → Padded n d a k l → k + m ≤ n → m ≤ length b
+    → Padded n d (paste a k (take m b) m) (k + m) (l ++ used m b)
 unfolding used
-joined_none b {l} h = record { long = omega arith; holds = rw (append-nil l) h }
-
-pub joined_more : {A : Type 0} {n : ℕ} {d : A} {b l : List A} {k : ℕ} {a : List A} {m i : ℕ} → Joined n d b l k a m i → m < n → i < length b
-    → Joined n d b l k (set a m (get_or b i d)) (m + 1) (i + 1)
-unfolding used
-joined_more {A} {n} {d} {b} {l} {k} {a} {m} {i} h lt le =
+joined {A} {n} {d} {a} {l} {k} b m h room few =
     let long = h.long in
-    let all : (l ++ used i b) ++ (get_or b i d ∷ []) ≡ l ++ used (i + 1) b =
-    append_assoc l (used i b) (get_or b i d ∷ []) ∙ ap (λ (c : List A). l ++ c) (sym (take_more b i d le)) in
-    record { long = omega arith; holds = rw all at (is_push h.holds (get_or b i d) lt) }
+    let z : m ≡ length (take m b) = omega (arith, length-take m b) in
+    let front : take k a ≡ l = is_view h in
+    let rest : drop (k + m) a ≡ replicate (n - length (l ++ take m b)) d =
+    ap (λ (x : List A). drop (k + m) x) h.places ∙ ap (λ (x : ℕ). drop (x + m) (l ++ replicate (n - length l) d)) long
+    ∙ drop-append-add l (replicate (n - length l) d) m ∙ drop-replicate m (n - length l) d
+    ∙ ap (λ (x : ℕ). replicate x d) (let y : n - length l - m ≡ n - length (l ++ take m b) = omega (arith, length-append l (take m b)) in y) in
+    record {
+      places =
+          paste_all a k (take m b) m z ∙ ap (λ (x : List A). x ++ (take m b ++ drop (k + m) a)) front ∙ ap (λ (x : List A). l ++ (take m b ++ x)) rest
+          ∙ sym (append_assoc l (take m b) (replicate (n - length (l ++ take m b)) d));
+      long = omega (arith, length-append l (take m b));
+      room = room;
+    }

@@ -6,13 +6,12 @@ use mathlib.Core.Path.{◌≡◌, refl, sym, ap, ap₂, ◌∙◌}
 use mathlib.Core.Bool.{Bool, true, false, cond, not, ◌||◌}
 use mathlib.Core.List.{List, [], ◌∷◌, ◌++◌, append_assoc, map, map-append}
 use native.Mathlib.Omega.{arith}
-use lib.IntN.{ℤ}
-use lib.ListN.{length, get_or, take, length-append, replicate, length-replicate}
+use lib.ListN.{length, take, length-append, replicate, length-replicate}
 use Rattle.derivation.specs.Pad.{Padded, used}
 use Rattle.derivation.specs.Lists.{blank_serial, member_at}
 use Rattle.derivation.proofs.Pad.{is_view, is_good}
 use Rattle.paper.specs.Words.{table, any_b, keep}
-use Rattle.paper.specs.Numbers.{bit, same_serial}
+use Rattle.paper.specs.Numbers.{same_serial}
 use Rattle.paper.specs.Sets.{Wishes, marks_of, sets_of, is_in, in_order, mark_all, mark_only, marked, long_set, short_set, long_marked, used_by, unused_by, first_of, long_match, short_match}
 use Rattle.paper.specs.declared.Serial.{Serial}
 use Rattle.paper.specs.declared.Picture.{Picture}
@@ -38,20 +37,20 @@ long_ask M ps w = first_of (long_match M w) ps
 abbrev short_ask : List Picture → Wish → Serial
 short_ask ps w = first_of (short_match w) ps
 
-module _ (k : ℕ) (ps : List Picture) (pocs : List ℤ) (hows : List ℕ) (i : ℕ) where
+module _ (k : ℕ) (ps : List Picture) (wishes : List Wish) (i : ℕ) where
   abbrev w : Wish
-  w = wish_at pocs hows i
+  w = wish_at wishes i
 
-  long_member : member_for true k ps pocs hows i ≡ long_ask (2 ^ (min k 16)) ps w
+  long_member : member_for true k ps wishes i ≡ long_ask (2 ^ (min k 16)) ps w
   long_member =
-      member_first (passing (sought_for true k w.poc w.whole)) ps ∙ ap (λ (f : Picture → Bool). first_of f ps) (go w.whole) ∙ sym (first_long (2 ^ (min k 16)) w ps)
+      member_first (passing (sought_for true k w)) ps ∙ ap (λ (f : Picture → Bool). first_of f ps) (go w.whole) ∙ sym (first_long (2 ^ (min k 16)) w ps)
     where
-      go : (b : Bool) → passing (sought_for true k w.poc b) ≡ cond b (any_at w.poc) (low_at (2 ^ (min k 16)) w.poc)
+      go : (b : Bool) → passing (sought_for true k (record { poc = w.poc; used = w.used; whole = b })) ≡ cond b (any_at w.poc) (low_at (2 ^ (min k 16)) w.poc)
       go true = refl
       go false = refl
 
-  short_member : member_for false k ps pocs hows i ≡ short_ask ps w
-  short_member = member_first (passing (sought_for false k w.poc w.whole)) ps
+  short_member : member_for false k ps wishes i ≡ short_ask ps w
+  short_member = member_first (passing (sought_for false k w)) ps
 
 -- ---- members, in any order
 
@@ -85,16 +84,16 @@ any_order false false false true l m = refl
 any_order false false false false l m = refl
 
 -- counts that sixteen places have room for are themselves
-pub within_room : (ps : List ℤ) (hs : List ℕ) (a b c : ℕ) → a + b + c ≤ 16 → wishes_within ps hs a b c ≡ wishes_in ps hs a b c
-within_room ps hs a b c room =
+pub within_room : (ws : List Wish) (a b c : ℕ) → a + b + c ≤ 16 → wishes_within ws a b c ≡ wishes_in ws a b c
+within_room ws a b c room =
     let n : min a 16 ≡ a = omega arith in
     let p : min b (16 - min a 16) ≡ b = omega arith in
     let q : min c (16 - min a 16 - min b (16 - min a 16)) ≡ c = omega arith in
-    λ i. wishes_in ps hs (n i) (p i) (q i)
+    λ i. wishes_in ws (n i) (p i) (q i)
 
 -- ---- step 4 on places
 
-module _ (k : ℕ) (pocs : List ℤ) (hows : List ℕ) (a b c n : ℕ) (ps : List Picture) (whole : length ps ≡ 16) (few : n ≤ 16) (room : a + b + c ≤ 16) where
+module _ (k : ℕ) (wishes : List Wish) (a b c n : ℕ) (ps : List Picture) (whole : length ps ≡ 16) (few : n ≤ 16) (room : a + b + c ≤ 16) where
   abbrev M : ℕ
   M = 2 ^ (min k 16)
 
@@ -102,30 +101,30 @@ module _ (k : ℕ) (pocs : List ℤ) (hows : List ℕ) (a b c n : ℕ) (ps : Lis
   qs = front ps n
 
   abbrev ws : Wishes
-  ws = wishes_in pocs hows a b c
+  ws = wishes_in wishes a b c
 
   abbrev lf : List Serial
-  lf = long_found k pocs hows (a + b) c n ps
+  lf = long_found k wishes (a + b) c n ps
 
   abbrev lp : List Picture
-  lp = long_places k pocs hows (a + b) c n ps
+  lp = long_places k wishes (a + b) c n ps
 
   abbrev af : List Serial
-  af = all_found k pocs hows (a + b) c n ps
+  af = all_found k wishes (a + b) c n ps
 
   abbrev ls : List Picture
   ls = long_marked M qs ws
 
   -- what entries find, place after place
-  asked : (q : Wish → Serial) (from m : ℕ) (f : ℕ → Serial) → ((i : ℕ) → i < m → f i ≡ q (wish_at pocs hows (from + i))) → table f m ≡ map q (wishes_at pocs hows from m)
-  asked q from m f h = table_same f (λ (i : ℕ). q (wish_at pocs hows (from + i))) m h ∙ sym (table_map q (λ (i : ℕ). wish_at pocs hows (from + i)) m)
+  asked : (q : Wish → Serial) (from m : ℕ) (f : ℕ → Serial) → ((i : ℕ) → i < m → f i ≡ q (wish_at wishes (from + i))) → table f m ≡ map q (wishes_at wishes from m)
+  asked q from m f h = table_same f (λ (i : ℕ). q (wish_at wishes (from + i))) m h ∙ sym (table_map q (λ (i : ℕ). wish_at wishes (from + i)) m)
 
   -- the long-term ones
-  long_at : (i : ℕ) → i < c → member_at lf (a + b + i) ≡ long_ask M qs (wish_at pocs hows (a + b + i))
+  long_at : (i : ℕ) → i < c → member_at lf (a + b + i) ≡ long_ask M qs (wish_at wishes (a + b + i))
   long_at i lt =
-      filled_at (member_for true k (take n ps) pocs hows) (a + b) (replicate 16 blank_serial) blank_serial c i lt (omega (arith, length-replicate 16 blank_serial))
-      ∙ ap (λ (l : List Picture). member_for true k l pocs hows (a + b + i)) (take_front ps n (omega arith))
-      ∙ long_member k qs pocs hows (a + b + i)
+      filled_at (member_for true k (take n ps) wishes) (a + b) (replicate 16 blank_serial) blank_serial c i lt (omega (arith, length-replicate 16 blank_serial))
+      ∙ ap (λ (l : List Picture). member_for true k l wishes (a + b + i)) (take_front ps n (omega arith))
+      ∙ long_member k qs wishes (a + b + i)
 
   long_members : members_at lf (a + b) c ≡ long_set M qs ws.lt
   unfolding long_set
@@ -148,16 +147,16 @@ module _ (k : ℕ) (pocs : List ℤ) (hows : List ℕ) (a b c n : ℕ) (ps : Lis
   long_whole = changed_length blank (marking true LongTerm (members_at lf (a + b) c)) ps n ∙ whole
 
   -- the short-term ones, among the pictures that are left; the long-term ones stay
-  short_at : (j : ℕ) → j < a + b → member_at af j ≡ short_ask ls (wish_at pocs hows j)
+  short_at : (j : ℕ) → j < a + b → member_at af j ≡ short_ask ls (wish_at wishes j)
   short_at j lt =
-      let f = member_for false k (take n lp) pocs hows in
+      let f = member_for false k (take n lp) wishes in
       let z : 0 + j ≡ j = omega arith in
-      let long = filled_length (member_for true k (take n ps) pocs hows) (a + b) (replicate 16 blank_serial) c in
+      let long = filled_length (member_for true k (take n ps) wishes) (a + b) (replicate 16 blank_serial) c in
       let h : member_at af j ≡ f j = rw z at (filled_at f 0 lf blank_serial (a + b) j lt (omega (arith, long, length-replicate 16 blank_serial))) in
-      h ∙ ap (λ (l : List Picture). member_for false k l pocs hows j) (take_front lp n (omega (arith, long_whole)) ∙ long_marks) ∙ short_member k ls pocs hows j
+      h ∙ ap (λ (l : List Picture). member_for false k l wishes j) (take_front lp n (omega (arith, long_whole)) ∙ long_marks) ∙ short_member k ls wishes j
 
-  far_at : (i : ℕ) → i < c → member_at af (a + b + i) ≡ long_ask M qs (wish_at pocs hows (a + b + i))
-  far_at i lt = filled_off (member_for false k (take n lp) pocs hows) 0 lf blank_serial (a + b) (a + b + i) (λ j l e. omega arith) ∙ long_at i lt
+  far_at : (i : ℕ) → i < c → member_at af (a + b + i) ≡ long_ask M qs (wish_at wishes (a + b + i))
+  far_at i lt = filled_off (member_for false k (take n lp) wishes) 0 lf blank_serial (a + b) (a + b + i) (λ j l e. omega arith) ∙ long_at i lt
 
   all_members : members_at af 0 (a + b + c) ≡ (map (short_ask ls) ws.neg ++ map (short_ask ls) ws.pos) ++ map (long_ask M qs) ws.lt
   all_members =
@@ -181,7 +180,7 @@ module _ (k : ℕ) (pocs : List ℤ) (hows : List ℕ) (a b c n : ℕ) (ps : Lis
       let order = any_order (is (map s (u ws.neg))) (is (map s (u ws.pos))) (is (map s (v ws.neg))) (is (map s (v ws.pos))) (is (map q (u ws.lt))) (is (map q (v ws.lt))) in
       simp (map-append, any_append) (order ∙ rw (parts f s used_by ws.neg, parts f s used_by ws.pos, parts f q used_by ws.lt) all)
 
-  all_marks : front (all_places k pocs hows (a + b) c n ps) n ≡ marks_of M qs ws
+  all_marks : front (all_places k wishes (a + b) c n ps) n ≡ marks_of M qs ws
   unfolding marks_of mark_only
   all_marks =
       front_changed (marking false Unmarked (members_at af 0 (a + b + c))) lp n (omega (arith, long_whole))
@@ -189,22 +188,22 @@ module _ (k : ℕ) (pocs : List ℤ) (hows : List ℕ) (a b c n : ℕ) (ps : Lis
       ∙ ap (λ (g : Picture → Picture). map g ls) (λ i p. cond (sym (in_all p.serial) i) p (marked Unmarked p))
 
   -- the used ones, and the others, of entries that find what q says
-  chosen : (q : Wish → Serial) (from m : ℕ) → ((i : ℕ) → i < m → member_at af (from + i) ≡ q (wish_at pocs hows (from + i)))
-      → (used_at af hows from m ≡ map q (keep used_by (wishes_at pocs hows from m))) × (unused_at af hows from m ≡ map q (keep unused_by (wishes_at pocs hows from m)))
+  chosen : (q : Wish → Serial) (from m : ℕ) → ((i : ℕ) → i < m → member_at af (from + i) ≡ q (wish_at wishes (from + i)))
+      → (used_at af wishes from m ≡ map q (keep used_by (wishes_at wishes from m))) × (unused_at af wishes from m ≡ map q (keep unused_by (wishes_at wishes from m)))
   chosen q from m h =
-      let b : ℕ → Bool = λ i. bit 0 (get_or hows (from + i) 0) in
+      let b : ℕ → Bool = λ i. (wish_at wishes (from + i)).used in
       let f : ℕ → Serial = λ i. member_at af (from + i) in
-      let w : ℕ → Wish = λ i. wish_at pocs hows (from + i) in
+      let w : ℕ → Wish = λ i. wish_at wishes (from + i) in
       (picked_is b f used_by q w m (λ i l. refl) h, picked_is (λ (i : ℕ). not (b i)) f unused_by q w m (λ i l. refl) h)
 
   -- the five sets, by what the entries found
   sets_found : sets_of M qs ws
       ≡ record {
-        before = used_at af hows 0 a;
-        after = used_at af hows a b;
-        foll = unused_at af hows 0 a ++ unused_at af hows a b;
-        lt_curr = used_at af hows (a + b) c;
-        lt_foll = unused_at af hows (a + b) c;
+        before = used_at af wishes 0 a;
+        after = used_at af wishes a b;
+        foll = unused_at af wishes 0 a ++ unused_at af wishes a b;
+        lt_curr = used_at af wishes (a + b) c;
+        lt_foll = unused_at af wishes (a + b) c;
       }
   unfolding sets_of short_set long_set
   sets_found =
@@ -225,7 +224,7 @@ runs_first us vs g h = record { first = rw (is_view g.first) at h.first; second 
 
 -- the sizes of the sets: the first set ends at x, the second at y, the third at z
 abbrev sizes_of : Runs → Runs → Runs → Sizes
-sizes_of x y z = record { before = x.used; after = y.used - x.used; long = z.used - y.used; foll = y.rest; lt_foll = z.rest - y.rest }
+sizes_of x y z = record { before = x.used.len; after = y.used.len - x.used.len; long = z.used.len - y.used.len; foll = y.rest.len; lt_foll = z.rest.len - y.rest.len }
 
 -- a part behind what a run held
 behind : (l m : List Serial) {us vs : List Serial} {i j : ℕ} → Padded 16 blank_serial us i l → Padded 16 blank_serial vs j (used i us ++ m) → Padded 16 blank_serial vs j (l ++ m)
@@ -248,12 +247,12 @@ three_parts l m r f g h =
     record { holds = rw (append_assoc l m r) at q; one = f.long; two = p.long ∙ x; three = q.long ∙ omega (arith, x, y) }
 
 module _ (b a l f g h : List Serial) {x y z : Runs} (p : HoldsRuns x b f) (q : HoldsRuns y (used_in x ++ a) (rest_in x ++ g)) (r : HoldsRuns z (used_in y ++ l) (rest_in y ++ h)) where
-  runs_sets : z.used + z.rest ≤ 16 → HoldsSets z.first z.second (sizes_of x y z) (record { before = b; after = a; foll = f ++ g; lt_curr = l; lt_foll = h })
+  runs_sets : z.used.len + z.rest.len ≤ 16 → HoldsSets z.used.items z.rest.items (sizes_of x y z) (record { before = b; after = a; foll = f ++ g; lt_curr = l; lt_foll = h })
   runs_sets few =
       let u = three_parts b a l p.first q.first r.first in
       let v = three_parts f g h p.second q.second r.second in
-      let m : x.used + (y.used - x.used) + (z.used - y.used) ≡ z.used = omega arith in
-      let n : y.rest + (z.rest - y.rest) ≡ z.rest = omega arith in
+      let m : x.used.len + (y.used.len - x.used.len) + (z.used.len - y.used.len) ≡ z.used.len = omega arith in
+      let n : y.rest.len + (z.rest.len - y.rest.len) ≡ z.rest.len = omega arith in
       let o = length-append f g in
       record {
         first = rw m u.holds;
@@ -268,15 +267,15 @@ module _ (b a l f g h : List Serial) {x y z : Runs} (p : HoldsRuns x b f) (q : H
 
 -- ---- the whole step
 
-module _ (k : ℕ) (pocs : List ℤ) (hows : List ℕ) (a b c n : ℕ) (ps : List Picture) (whole : length ps ≡ 16) (few : n ≤ 16) (room : a + b + c ≤ 16) {t : Settled} (s : Settles k pocs hows (a + b) c n ps t) where
-  pub derives : {x y z : Runs} → HoldsRuns x (used_at t.found hows 0 a) (unused_at t.found hows 0 a) → HoldsRuns y (used_in x ++ used_at t.found hows a b) (rest_in x ++ unused_at t.found hows a b)
-      → HoldsRuns z (used_in y ++ used_at t.found hows (a + b) c) (rest_in y ++ unused_at t.found hows (a + b) c) → z.used + z.rest ≤ 16
-      → Derives (2 ^ (min k 16)) (front ps n) (wishes_in pocs hows a b c) (record { store = record { places = t.places; len = n }; first = z.first; second = z.second; sizes = sizes_of x y z })
+module _ (k : ℕ) (wishes : List Wish) (a b c n : ℕ) (ps : List Picture) (whole : length ps ≡ 16) (few : n ≤ 16) (room : a + b + c ≤ 16) {t : Settled} (s : Settles k wishes (a + b) c n ps t) where
+  pub derives : {x y z : Runs} → HoldsRuns x (used_at t.found wishes 0 a) (unused_at t.found wishes 0 a) → HoldsRuns y (used_in x ++ used_at t.found wishes a b) (rest_in x ++ unused_at t.found wishes a b)
+      → HoldsRuns z (used_in y ++ used_at t.found wishes (a + b) c) (rest_in y ++ unused_at t.found wishes (a + b) c) → z.used.len + z.rest.len ≤ 16
+      → Derives (2 ^ (min k 16)) (front ps n) (wishes_in wishes a b c) (record { store = record { places = t.places; len = n }; first = z.used.items; second = z.rest.items; sizes = sizes_of x y z })
   derives {x} {y} {z} p q r le =
       let fs = t.found in
-      let h = runs_sets (used_at fs hows 0 a) (used_at fs hows a b) (used_at fs hows (a + b) c) (unused_at fs hows 0 a) (unused_at fs hows a b) (unused_at fs hows (a + b) c) p q r le in
+      let h = runs_sets (used_at fs wishes 0 a) (used_at fs wishes a b) (used_at fs wishes (a + b) c) (unused_at fs wishes 0 a) (unused_at fs wishes a b) (unused_at fs wishes (a + b) c) p q r le in
       record {
-        pics = ap (λ (l : List Picture). front l n) s.places ∙ all_marks k pocs hows a b c n ps whole few room;
+        pics = ap (λ (l : List Picture). front l n) s.places ∙ all_marks k wishes a b c n ps whole few room;
         few = few;
-        sets = rw (sets_found k pocs hows a b c n ps whole few room) (rw s.found at h);
+        sets = rw (sets_found k wishes a b c n ps whole few room) (rw s.found at h);
       }

@@ -6,7 +6,7 @@ use mathlib.Core.List.{List, [], ◌∷◌, ◌++◌, append-nil}
 use Prim.Native.Nat.{ℕ, ◌+◌, ◌-◌, ◌≤◌, ◌<◌}
 use native.Mathlib.Omega.{arith}
 use lib.Dec.{eqb, ltb}
-use lib.ListN.{length, set, length-append}
+use lib.ListN.{length, length-append}
 use lib.IntN.{ℤ}
 use borrow.Author.Tests.{ltb-false}
 use Rattle.derivation.proofs.Pad.{is_view, is_push}
@@ -22,21 +22,19 @@ use Rattle.paper.specs.declared.Shown.{Shown}
 use Rattle.paper.specs.declared.Surface.{Surface}
 use Rattle.paper.specs.declared.Picture.{Picture}
 use Rattle.paper.specs.declared.Limits.{Limits}
-use Rattle.paper.specs.declared.Found.{Found}
 use Rattle.store.specs.Places.{place_at, front}
-use Rattle.store.specs.Tails.{HoldsHanded, HoldsThrown, HoldsReleased, GoodReleased, HoldsMoved, HoldsParts, handed_in, released_in, moved_in, started_in, waits, Gathers}
+use Rattle.store.specs.Tails.{pushed, Handed, Thrown, Released, HoldsHanded, HoldsThrown, HoldsReleased, GoodReleased, HoldsMoved, HoldsParts, handed_in, released_in, moved_in, started_in, waits, Gathers}
 use Rattle.store.specs.Walks.{late_by}
 use Rattle.store.specs.Bumps.{Scans, due_by, due_scan, due_now, always_by, latency_by, turn_by, turns_by, hands_out}
-use Rattle.store.specs.declared.Handed.{Handed}
-use Rattle.store.specs.declared.Thrown.{Thrown}
-use Rattle.store.specs.declared.Released.{Released}
 use Rattle.store.specs.declared.Moved as Store
-use Rattle.store.specs.declared.bumping.Lowest.TheVariants.{Nothing, At}
+use Rattle.store.specs.OneWalk.{lowest_at}
+use Rattle.std.proofs.Common.{None}
 use Rattle.store.specs.declared.bumping.Scan.{Scan}
 use Rattle.store.specs.declared.bumping.Rule.{Rule}
 use Rattle.store.specs.declared.bumping.Rule.TheVariants.{All, Due}
 use Rattle.store.proofs.Moves.{moves, turn_first, turn_more, turn_stuck, turn_last}
 use Rattle.store.proofs.Scans.{found_in, scan_found, scan_the, scan_waits, scan_at}
+use Rattle.std.proofs.Common.{Option, None, Some}
 
 -- ---- what the places and the tail so far hold
 
@@ -78,20 +76,20 @@ pub scan_counts : {ps : List Picture} {n latency : ℕ} {c : Scan} → Scans ps 
 scan_counts s = record { waiting = s.waiting; late = λ h. s.late ∙ h }
 
 -- where none waits
-hand_none : (qs : List Picture) → lowest Found.Nothing qs ≡ Found.Nothing → (b : Bool) → hand_out b qs ≡ still qs
+hand_none : (qs : List Picture) → lowest None qs ≡ None → (b : Bool) → hand_out b qs ≡ still qs
 unfolding hand_out
 hand_none qs e b = rw e
 
-turn_nothing : (qs : List Picture) → lowest Found.Nothing qs ≡ Found.Nothing → (r : Rule) → turn_by r qs ≡ still qs
+turn_nothing : (qs : List Picture) → lowest None qs ≡ None → (r : Rule) → turn_by r qs ≡ still qs
 turn_nothing qs e All = hand_none qs e true
 turn_nothing qs e (Due l b) = by_case (λ (m : Moved). m ≡ still qs) (due b l qs) _ _ (λ _. hand_none qs e false) (λ _. refl)
 
-none_found : (qs : List Picture) → length (waitings qs) ≡ 0 → lowest Found.Nothing qs ≡ Found.Nothing
-none_found qs z = go (lowest Found.Nothing qs) refl
+none_found : (qs : List Picture) → length (waitings qs) ≡ 0 → lowest None qs ≡ None
+none_found qs z = go (lowest None qs) refl
   where
-    go : (x : Found) → lowest Found.Nothing qs ≡ x → x ≡ Found.Nothing
-    go Found.Nothing e = refl
-    go (Found.The p) e = absurd (omega (arith, one_fewer true p qs (lowest_first qs p e)))
+    go : (x : Option Picture) → lowest None qs ≡ x → x ≡ None
+    go None e = refl
+    go (Some p) e = absurd (omega (arith, one_fewer true p qs (lowest_first qs p e)))
 
 module _ {ps : List Picture} {n : ℕ} {c : Scan} where
   -- the test of due, on the walk and on the pictures
@@ -137,7 +135,7 @@ module _ {ps : List Picture} {n : ℕ} {c : Scan} where
       sym (turn_stuck (still qs) (turn_by r) k 0 (turns k (turn_by r) qs) (turn_first (still qs) (turn_by r) k) (turn_none r (scan_counts s) d))
 
   -- else it hands out the lowest
-  module _ {at : ℕ} {z : ℤ} (e : c.lowest ≡ At at z) where
+  module _ {at : ℕ} {z : ℤ} (e : c.lowest ≡ lowest_at at z) where
     hand_one : {latency : ℕ} → Scans ps n latency c → (b : Bool) → hand_out b (front ps n) ≡ hands_out (b || not (is_marked (place_at ps at).mark)) (place_at ps at) (front ps n)
     unfolding hand_out
     hand_one s b = rw (scan_the s e)
@@ -175,10 +173,10 @@ shrinks_turn (Due l b) ps = by_case (Shrinks ps) (due b l ps) (hand_out false ps
 
 -- one more in a part of the tail
 abbrev pub handed_more : Handed → Shown → Handed
-handed_more h y = record { items = set h.items h.len y; len = h.len + 1 }
+handed_more = pushed
 
 abbrev pub released_more : Released → Surface → Released
-released_more x y = record { items = set x.items x.len y; len = x.len + 1 }
+released_more = pushed
 
 -- ---- a round: after i turns of n
 
@@ -212,14 +210,14 @@ module _ {rule : Rule} {ps₀ : List Picture} {n : ℕ} {x₀ : Released} {i : �
   turned_done y d = turned_stuck (turn_none rule y d)
 
   module _ {c : Scan} (s : Scans ps k (latency_by rule) c) where
-    pub turned_nothing : c.lowest ≡ Nothing → Gathers ps k h x (and_then (started_in ps₀ n x₀) (turns_by rule))
+    pub turned_nothing : c.lowest ≡ None → Gathers ps k h x (and_then (started_in ps₀ n x₀) (turns_by rule))
     turned_nothing e = turned_stuck (turn_nothing (front ps k) (scan_found s ∙ ap (found_in ps) e) rule)
 
     pub turned_idle : due_scan rule c k ≡ false → Gathers ps k h x (and_then (started_in ps₀ n x₀) (turns_by rule))
     turned_idle d = turned_stuck (turn_idle rule (scan_counts s) d)
 
     -- one is found: its place, and room for it in both parts of the tail
-    module _ {at : ℕ} {z : ℤ} (e : c.lowest ≡ At at z) where
+    module _ {at : ℕ} {z : ℤ} (e : c.lowest ≡ lowest_at at z) where
       pub found_at : at < 16
       found_at = omega (arith, scan_at s e, g.gathers.places)
 

@@ -16,28 +16,27 @@ use Rattle.paper.proofs.Quiet.{waitings, few_wait, one_fewer}
 use Rattle.paper.specs.Words.{keep, any_b, table}
 use Rattle.paper.specs.Output.{lowest, below}
 use Rattle.paper.specs.declared.Picture.{Picture}
-use Rattle.paper.specs.declared.Found.{Found}
 use Rattle.store.specs.Places.{place_at, front}
 use Rattle.store.specs.Tails.{waits}
 use Rattle.store.specs.Walks.{late_by}
-use Rattle.store.specs.OneWalk.{lower_by, walk_from, one_walk, two_walks}
+use Rattle.store.specs.OneWalk.{lowest_at, lower_by, walk_from, one_walk, two_walks}
 use Rattle.store.specs.Bumps.{Scans, nothing_seen, seen_by}
 use Rattle.store.specs.declared.bumping.Lowest.{Lowest}
-use Rattle.store.specs.declared.bumping.Lowest.TheVariants.{Nothing, At}
 use Rattle.store.specs.declared.bumping.Scan.{Scan}
 use Rattle.store.proofs.OneWalk.{item_3}
 use Rattle.store.proofs.StoreWords.{table_more}
 use Rattle.store.proofs.Kept.{keep_take, keep_pass}
 use Rattle.store.proofs.Walks.{any_more}
+use Rattle.std.proofs.Common.{Option, None, Some}
 
 -- ---- a list with one picture more at its end
 
-lowest_last : (b : Found) (ps : List Picture) (p : Picture) → lowest b (ps ++ (p ∷ [])) ≡ cond (p.waiting && below p (lowest b ps)) (Found.The p) (lowest b ps)
+lowest_last : (b : Option Picture) (ps : List Picture) (p : Picture) → lowest b (ps ++ (p ∷ [])) ≡ cond (p.waiting && below p (lowest b ps)) (Some p) (lowest b ps)
 unfolding lowest
 lowest_last b [] p = refl
-lowest_last b (q ∷ ps) p = lowest_last (cond (q.waiting && below q b) (Found.The q) b) ps p
+lowest_last b (q ∷ ps) p = lowest_last (cond (q.waiting && below q b) (Some q) b) ps p
 
-walk_last : (i : ℕ) (x : Lowest) (ps : List Picture) (p : Picture) → walk_from i x (ps ++ (p ∷ [])) ≡ cond p.waiting (lower_by (walk_from i x ps) (length ps + i) p.poc) (walk_from i x ps)
+walk_last : (i : ℕ) (x : Option Lowest) (ps : List Picture) (p : Picture) → walk_from i x (ps ++ (p ∷ [])) ≡ cond p.waiting (lower_by (walk_from i x ps) (length ps + i) p.poc) (walk_from i x ps)
 unfolding walk_from
 walk_last i x [] p = let e : i ≡ 0 + i = omega arith in ap (λ (j : ℕ). cond p.waiting (lower_by x j p.poc) x) e
 walk_last i x (q ∷ ps) p =
@@ -52,28 +51,28 @@ unfolding walk_from keep any_b table
 scan_none ps latency = record { waiting = refl; late = refl; lowest = refl }
 
 -- the picture that a walk found, and that it stands among the first n
-abbrev pub found_in : List Picture → Lowest → Found
-found_in ps Nothing = Found.Nothing
-found_in ps (At i z) = Found.The (place_at ps i)
+abbrev pub found_in : List Picture → Option Lowest → Option Picture
+found_in ps None = None
+found_in ps (Some x) = Some (place_at ps x.at)
 
-abbrev Within : List Picture → ℕ → Lowest → Type 0
-Within ps n Nothing = n ≡ n
-Within ps n (At i z) = (i < n) × (z ≡ (place_at ps i).poc)
+abbrev Within : List Picture → ℕ → Option Lowest → Type 0
+Within ps n None = n ≡ n
+Within ps n (Some x) = (x.at < n) × (x.poc ≡ (place_at ps x.at).poc)
 
-record Lowers (ps : List Picture) (i : ℕ) (l : Lowest) : Type 0 where
-  found : lowest Found.Nothing (front ps i) ≡ found_in ps l
+record Lowers (ps : List Picture) (i : ℕ) (l : Option Lowest) : Type 0 where
+  found : lowest None (front ps i) ≡ found_in ps l
   within : Within ps i l
 
 module _ (ps : List Picture) where
-  within_more : (i : ℕ) (l : Lowest) → Within ps i l → Within ps (i + 1) l
-  within_more i Nothing w = refl
-  within_more i (At j z) w = (omega (arith, w.0), w.1)
+  within_more : (i : ℕ) (l : Option Lowest) → Within ps i l → Within ps (i + 1) l
+  within_more i None w = refl
+  within_more i (Some x) w = (omega (arith, w.0), w.1)
 
   walk_more : (i : ℕ) → one_walk (front ps (i + 1)) ≡ cond (place_at ps i).waiting (lower_by (one_walk (front ps i)) i (place_at ps i).poc) (one_walk (front ps i))
   walk_more i =
       let p = place_at ps i in
       let e : length (front ps i) + 0 ≡ i = omega (arith, table_length (place_at ps) i) in
-      ap one_walk (table_more (place_at ps) i) ∙ walk_last 0 Nothing (front ps i) p
+      ap one_walk (table_more (place_at ps) i) ∙ walk_last 0 None (front ps i) p
       ∙ ap (λ (j : ℕ). cond p.waiting (lower_by (one_walk (front ps i)) j p.poc) (one_walk (front ps i))) e
 
   -- one picture more, at place i: the lowest now, or not
@@ -81,20 +80,20 @@ module _ (ps : List Picture) where
     abbrev p : Picture
     p = place_at ps i
 
-    more_found : (l : Lowest) → lowest Found.Nothing (front ps i) ≡ found_in ps l
-        → lowest Found.Nothing (front ps (i + 1)) ≡ cond (p.waiting && below p (found_in ps l)) (Found.The p) (found_in ps l)
+    more_found : (l : Option Lowest) → lowest None (front ps i) ≡ found_in ps l
+        → lowest None (front ps (i + 1)) ≡ cond (p.waiting && below p (found_in ps l)) (Some p) (found_in ps l)
     more_found l e =
-        ap (lowest Found.Nothing) (table_more (place_at ps) i) ∙ lowest_last Found.Nothing (front ps i) p
-        ∙ ap (λ (b : Found). cond (p.waiting && below p b) (Found.The p) b) e
+        ap (lowest None) (table_more (place_at ps) i) ∙ lowest_last None (front ps i) p
+        ∙ ap (λ (b : Option Picture). cond (p.waiting && below p b) (Some p) b) e
 
-    lowers : p.waiting ≡ true → (l : Lowest) → Lowers ps i l → Lowers ps (i + 1) (lower_by l i p.poc)
-    lowers w Nothing h = record { found = rw w at (more_found Nothing h.found); within = (omega arith, refl) }
-    lowers w (At j z) h =
-        by_case (Lowers ps (i + 1)) (lt_z p.poc z) (At i p.poc) (At j z)
-        (λ b. record { found = rw (w, ← h.within.1, b) at (more_found (At j z) h.found); within = (omega arith, refl) })
-        (λ b. record { found = rw (w, ← h.within.1, b) at (more_found (At j z) h.found); within = within_more i (At j z) h.within })
+    lowers : p.waiting ≡ true → (l : Option Lowest) → Lowers ps i l → Lowers ps (i + 1) (lower_by l i p.poc)
+    lowers w None h = record { found = rw w at (more_found None h.found); within = (omega arith, refl) }
+    lowers w (Some x) h =
+        by_case (Lowers ps (i + 1)) (lt_z p.poc x.poc) (lowest_at i p.poc) (Some x)
+        (λ b. record { found = rw (w, ← h.within.1, b) at (more_found (Some x) h.found); within = (omega arith, refl) })
+        (λ b. record { found = rw (w, ← h.within.1, b) at (more_found (Some x) h.found); within = within_more i (Some x) h.within })
 
-    lowers_more : (l : Lowest) → Lowers ps i l → Lowers ps (i + 1) (cond p.waiting (lower_by l i p.poc) l)
+    lowers_more : (l : Option Lowest) → Lowers ps i l → Lowers ps (i + 1) (cond p.waiting (lower_by l i p.poc) l)
     lowers_more l h =
         by_case (Lowers ps (i + 1)) p.waiting (lower_by l i p.poc) l (λ w. lowers w l h)
         (λ w. record { found = rw w at (more_found l h.found); within = within_more i l h.within })
@@ -115,7 +114,7 @@ module _ {ps : List Picture} {i latency : ℕ} {c : Scan} (s : Scans ps i latenc
   more_late = any_more (late_by latency) (place_at ps) i ∙ ap (λ (b : Bool). b || (q.waiting && leb latency q.count)) (sym s.late)
 
   more_lowest : cond q.waiting (lower_by c.lowest i q.poc) c.lowest ≡ one_walk (front ps (i + 1))
-  more_lowest = ap (λ (l : Lowest). cond q.waiting (lower_by l i q.poc) l) s.lowest ∙ sym (walk_more ps i)
+  more_lowest = ap (λ (l : Option Lowest). cond q.waiting (lower_by l i q.poc) l) s.lowest ∙ sym (walk_more ps i)
 
   -- one picture more
   pub scan_more : Scans ps (i + 1) latency (seen_by c i q latency)
@@ -142,11 +141,11 @@ module _ {ps : List Picture} {i latency : ℕ} {c : Scan} (s : Scans ps i latenc
       omega (arith, s.waiting, table_length (place_at ps) i)
 
   -- what it finds is the lowest of the definition, stands among those that it saw, and waits
-  pub scan_found : lowest Found.Nothing (front ps i) ≡ found_in ps c.lowest
+  pub scan_found : lowest None (front ps i) ≡ found_in ps c.lowest
   scan_found = (walked ps i).found ∙ ap (found_in ps) (sym s.lowest)
 
-  module _ {at : ℕ} {z : ℤ} (e : c.lowest ≡ At at z) where
-    pub scan_the : lowest Found.Nothing (front ps i) ≡ Found.The (place_at ps at)
+  module _ {at : ℕ} {z : ℤ} (e : c.lowest ≡ lowest_at at z) where
+    pub scan_the : lowest None (front ps i) ≡ Some (place_at ps at)
     scan_the = scan_found ∙ ap (found_in ps) e
 
     pub scan_waits : 0 < c.waiting

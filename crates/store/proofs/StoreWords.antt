@@ -1,12 +1,12 @@
 -- A write to the words of one place changes the picture there and no other, for the words of two places are apart.
 -- Assumes nothing.
 use Prim.Native.Nat.{ℕ, zero, suc, ◌+◌, ◌*◌, ◌≤◌, ◌<◌, min}
-use lib.Dec.{eqb, leb}
-use borrow.Author.Tests.{eqb-true, eqb-false, leb-true, leb-false, le-leb, lt-leb}
+use lib.Dec.{eqb}
+use borrow.Author.Tests.{eqb-true, eqb-false}
 use Rattle.paper.proofs.Bools.{split}
 use Rattle.paper.proofs.Fits.{table_length}
 use mathlib.Core.Path.{◌≡◌, refl, sym, ap, ap₂, ◌∙◌}
-use mathlib.Core.Bool.{Bool, true, false, ◌||◌}
+use mathlib.Core.Bool.{Bool, true, false}
 use mathlib.Core.List.{List, [], ◌∷◌, ◌++◌, map, map-append, append_assoc, append-nil}
 use native.Mathlib.Omega.{arith}
 use native.Mathlib.Numerals.{add-one}
@@ -200,11 +200,3 @@ used_is t n room le =
 
 pub used_length : (t : List ℕ) → length (stored t) ≡ count_in t
 used_length t = table_length (picture_at t) (count_in t)
-
--- the lesser of the capacity and 16 is compared
-pub full_is : (k r n : ℕ) → r ≤ 16 → r ≡ n → (leb k r || leb 16 r) ≡ leb (min k 16) n
-full_is k r n le e =
-    split (leb k r)
-    (λ a. let x : k ≤ r = leb-true k r a in rw a (sym (le-leb (min k 16) n (omega (arith, e)))))
-    (λ a. split (leb 16 r) (λ b. let y : 16 ≤ r = leb-true 16 r b in rw (a, b) (sym (le-leb (min k 16) n (omega (arith, e)))))
-    (λ b. let x : r < k = leb-false k r a in let y : r < 16 = leb-false 16 r b in rw (a, b) (sym (lt-leb (min k 16) n (omega (arith, e))))))

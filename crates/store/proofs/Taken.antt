@@ -19,7 +19,7 @@ use Rattle.derivation.proofs.Runs.{table_get, table_is}
 use Rattle.store.specs.Walks.{blank}
 use Rattle.store.specs.Places.{place_at, front, without_at}
 use Rattle.store.specs.OneWalk.{one_walk, position, Leads}
-use Rattle.store.specs.declared.bumping.Lowest.TheVariants.{At}
+use Rattle.store.specs.OneWalk.{lowest_at}
 use Rattle.store.proofs.OneWalk.{item_3, it_stands}
 
 -- ---- a list without the one at a place
@@ -76,7 +76,7 @@ put_front ps n i q lt long =
 
 -- ---- the walk's place is that of the first that waits with its POC
 
-module _ (ps : List Picture) (n : ℕ) {at : ℕ} {z : ℤ} (e : one_walk (front ps n) ≡ At at z) where
+module _ (ps : List Picture) (n : ℕ) {at : ℕ} {z : ℤ} (e : one_walk (front ps n) ≡ lowest_at at z) where
   abbrev qs : List Picture
   qs = front ps n
 
@@ -104,56 +104,22 @@ module _ (ps : List Picture) (n : ℕ) {at : ℕ} {z : ℤ} (e : one_walk (front
       change_at (is_it p) quieted qs ∙ ap (λ (i : ℕ). set qs i (quieted (place_at qs i))) its_place
       ∙ ap (λ (q : Picture). set qs at (quieted q)) there ∙ sym (put_front ps n at (quieted p) stands long)
 
--- ---- those behind a place move up, one by one
+-- ---- those behind a place move up
 
--- i is the next to be read: what is behind the place and in front of i stands one place further to the front
-pub record Moving (ps₀ : List Picture) (at : ℕ) (ps : List Picture) (i : ℕ) : Type 0 where
-  pub long : length ps ≡ 16
-  pub past : at < i
-  pub before : (j : ℕ) → j < at → place_at ps j ≡ place_at ps₀ j
-  pub behind : (j : ℕ) → at ≤ j → j + 1 < i → place_at ps j ≡ place_at ps₀ (j + 1)
-  pub rest : (j : ℕ) → i ≤ j → place_at ps j ≡ place_at ps₀ j
-
-pub moving_none : (ps : List Picture) (at : ℕ) → length ps ≡ 16 → Moving ps at ps (at + 1)
-moving_none ps at e = record { long = e; past = omega arith; before = λ j l. refl; behind = λ j l h. absurd (omega arith); rest = λ j l. refl }
-
-module _ {ps₀ : List Picture} {at : ℕ} {ps : List Picture} {i : ℕ} (h : Moving ps₀ at ps i) where
-  pub moving_more : i < 16 → Moving ps₀ at (set ps (i - 1) (place_at ps i)) (i + 1)
-  moving_more lt =
-      let past = h.past in
-      let long = h.long in
-      let off : (j : ℕ) → (j ≡ i - 1 → ⊥) → place_at (set ps (i - 1) (place_at ps i)) j ≡ place_at ps j = λ j o. get_or-set_other ps (i - 1) j (place_at ps i) blank o in
-      record {
-        long = length-set ps (i - 1) (place_at ps i) ∙ long;
-        past = omega arith;
-        before = λ j l. off j (λ e. omega arith) ∙ h.before j l;
-        behind =
-            λ j l k.
-            split (eqb (j + 1) i)
-            (λ e.
-            let y : j + 1 ≡ i = eqb-true (j + 1) i e in
-            let x : j ≡ i - 1 = omega arith in
-            rw x (get_or-set_same ps (i - 1) (place_at ps i) blank (omega arith)) ∙ h.rest i (omega arith) ∙ ap (place_at ps₀) (sym y))
-            (λ e.
-            let y = eqb-false (j + 1) i e in
-            off j (λ q. y (omega arith)) ∙ h.behind j l (omega arith));
-        rest = λ j l. off j (λ e. omega arith) ∙ h.rest j (omega arith);
-      }
-
-  pub moving_all : front ps (i - 1) ≡ without_at at (front ps₀ i)
-  moving_all =
-      let past = h.past in
-      let n = table_length (place_at ps₀) i in
-      let lt : at < length (front ps₀ i) = omega arith in
-      let l = without_length blank at (front ps₀ i) lt in
-      table_is blank (place_at ps) (without_at at (front ps₀ i)) (i - 1) (omega arith)
-      (λ j k.
-      split (ltb j at)
-      (λ e.
-      let b : j < at = ltb-true j at e in
-      h.before j b ∙ sym (table_get (place_at ps₀) i j blank (omega arith)) ∙ sym (without_before blank at (front ps₀ i) j b))
-      (λ e.
-      let b : at ≤ j = ltb-false j at e in
-      let x : suc j ≡ j + 1 = omega arith in
-      h.behind j b (omega arith) ∙ sym (table_get (place_at ps₀) i (j + 1) blank (omega arith)) ∙ ap (place_at (front ps₀ i)) (sym x) ∙ sym (without_behind blank at (front ps₀ i) j lt b)))
-      ∙ take_all (i - 1) (without_at at (front ps₀ i)) (omega arith)
+pub moved_up : (ps₀ ps : List Picture) {at n : ℕ} → at < n → ((j : ℕ) → j < at → place_at ps j ≡ place_at ps₀ j)
+    → ((j : ℕ) → at ≤ j → j + 1 < n → place_at ps j ≡ place_at ps₀ (j + 1)) → front ps (n - 1) ≡ without_at at (front ps₀ n)
+moved_up ps₀ ps {at} {n} past before behind =
+    let m = table_length (place_at ps₀) n in
+    let lt : at < length (front ps₀ n) = omega arith in
+    let l = without_length blank at (front ps₀ n) lt in
+    table_is blank (place_at ps) (without_at at (front ps₀ n)) (n - 1) (omega arith)
+    (λ j k.
+    split (ltb j at)
+    (λ e.
+    let b : j < at = ltb-true j at e in
+    before j b ∙ sym (table_get (place_at ps₀) n j blank (omega arith)) ∙ sym (without_before blank at (front ps₀ n) j b))
+    (λ e.
+    let b : at ≤ j = ltb-false j at e in
+    let x : suc j ≡ j + 1 = omega arith in
+    behind j b (omega arith) ∙ sym (table_get (place_at ps₀) n (j + 1) blank (omega arith)) ∙ ap (place_at (front ps₀ n)) (sym x) ∙ sym (without_behind blank at (front ps₀ n) j lt b)))
+    ∙ take_all (n - 1) (without_at at (front ps₀ n)) (omega arith)

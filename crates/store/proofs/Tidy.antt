@@ -1,6 +1,6 @@
 -- The normal form: what is written to a place leaves every place written as its picture is, and the places from the
 -- length on are blanked. Two stores in normal form with the same pictures have the same words. Assumes nothing.
-use Prim.Native.Nat.{ℕ, zero, suc, ◌+◌, ◌*◌, ◌-◌, ◌/◌, ◌%◌, ◌≤◌, ◌<◌}
+use Prim.Native.Nat.{ℕ, zero, suc, ◌+◌, ◌*◌, ◌/◌, ◌%◌, ◌≤◌, ◌<◌}
 use mathlib.Core.Path.{◌≡◌, refl, sym, ap, ◌∙◌}
 use mathlib.Core.List.{List}
 use native.Mathlib.Omega.{arith}
@@ -12,7 +12,7 @@ use Rattle.paper.proofs.Bools.{split}
 use Rattle.paper.specs.declared.Picture.{Picture}
 use Rattle.derivation.proofs.Runs.{table_get}
 use Rattle.store.specs.Walks.{blank}
-use Rattle.store.specs.StoreWords.{word, picture_at, pictures, stored, count_in, words_at, picture_words, Tidy, NormalForm, Puts}
+use Rattle.store.specs.StoreWords.{word, picture_at, pictures, stored, count_in, words_at, picture_words, Neat, Tidy, NormalForm, Puts}
 use Rattle.store.proofs.StoreWords.{table_same, elsewhere, spells, neat_by, used_length}
 
 -- a picture put at one of the first n places
@@ -22,36 +22,37 @@ puts_tidy h d lt = record { neat = h.neat d.neat; behind = λ j le l. h.others j
 pub tidy_more : {n m : ℕ} {t : List ℕ} → Tidy t n → n ≤ m → Tidy t m
 tidy_more d le = record { neat = d.neat; behind = λ j lj l. d.behind j (omega arith) l }
 
--- the last of the first places is blanked
-pub blanked : {i : ℕ} {t t' : List ℕ} → Puts i blank t t' → Tidy t (i + 1) → Tidy t' i
-blanked {i} h d =
-    record {
-      neat = h.neat d.neat;
-      behind = λ j le l.
-          split (eqb j i)
-          (λ e. let x : j ≡ i = eqb-true j i e in rw x h.at)
-          (λ e. let n = eqb-false j i e in h.others j n ∙ d.behind j (omega arith) l);
-    }
-
--- ---- the places from k on are blanked, the last of the first n at first: those from i on are
+-- ---- the places from k on are blanked, one after the other: those in front of i are
 
 pub record Blanks (t₀ t : List ℕ) (k n i : ℕ) : Type 0 where
-  pub above : k ≤ i
-  pub below : i ≤ n
   pub kept : pictures t k ≡ pictures t₀ k
-  pub tidy : Tidy t₀ n → Tidy t i
+  pub neat : Tidy t₀ n → (j : ℕ) → j < 16 → Neat t j
+  pub behind : Tidy t₀ n → (j : ℕ) → n ≤ j → j < 16 → picture_at t j ≡ blank
+  pub blanked : (j : ℕ) → k ≤ j → j < i → picture_at t j ≡ blank
 
-pub blanks_none : (t : List ℕ) (k n : ℕ) → k ≤ n → Blanks t t k n n
-blanks_none t k n le = record { above = le; below = omega arith; kept = refl; tidy = λ d. d }
+pub blanks_none : (t : List ℕ) (k n : ℕ) → Blanks t t k n k
+blanks_none t k n = record { kept = refl; neat = λ d. d.neat; behind = λ d. d.behind; blanked = λ j le l. absurd (omega arith) }
 
-pub blanks_more : {t₀ t t' : List ℕ} {k n i : ℕ} → Blanks t₀ t k n i → k < i → Puts (i - 1) blank t t' → Blanks t₀ t' k n (i - 1)
-blanks_more {t₀} {t} {t'} {k} {n} {i} h lt p =
-    let le = h.below in
+pub blanks_more : {t₀ t t' : List ℕ} {k n i : ℕ} → Blanks t₀ t k n i → k ≤ i → i < n → Puts i blank t t' → Blanks t₀ t' k n (i + 1)
+blanks_more {t₀} {t} {t'} {k} {n} {i} h le lt p =
     record {
-      above = omega arith;
-      below = omega arith;
       kept = table_same (picture_at t') (picture_at t) k (λ j l. p.others j (λ x. omega arith)) ∙ h.kept;
-      tidy = λ d. blanked p (tidy_more (h.tidy d) (omega arith));
+      neat = λ d. p.neat (h.neat d);
+      behind = λ d j o l. p.others j (λ x. omega arith) ∙ h.behind d j o l;
+      blanked = λ j o l.
+          split (eqb j i)
+          (λ e. let x : j ≡ i = eqb-true j i e in rw x p.at)
+          (λ e. let x = eqb-false j i e in p.others j x ∙ h.blanked j o (omega arith));
+    }
+
+pub blanks_all : {t₀ t : List ℕ} {k n : ℕ} → Blanks t₀ t k n n → Tidy t₀ n → Tidy t k
+blanks_all {t₀} {t} {k} {n} h d =
+    record {
+      neat = h.neat d;
+      behind = λ j le l.
+          split (leb n j)
+          (λ e. let x : n ≤ j = leb-true n j e in h.behind d j x l)
+          (λ e. let x : j < n = leb-false n j e in h.blanked j le x);
     }
 
 -- ---- how many are used

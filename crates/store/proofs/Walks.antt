@@ -1,26 +1,29 @@
 -- A walk that looks for something: none of those passed is it, and the first that is ends the walk. Assumes nothing.
-use Prim.Native.Nat.{ℕ, zero, suc, ◌+◌, ◌≤◌, ◌<◌, min}
+use Prim.Native.Nat.{ℕ, zero, suc, ◌+◌, ◌-◌, ◌≤◌, ◌<◌, min}
 use mathlib.Core.Path.{◌≡◌, refl, sym, ap, ◌∙◌}
-use mathlib.Core.Bool.{Bool, true, false, cond, not, ◌||◌, or_assoc, or-false}
+use mathlib.Core.Bool.{Bool, true, false, ◌||◌, or_assoc, or-false}
 use mathlib.Core.List.{List, [], ◌∷◌, ◌++◌}
 use native.Mathlib.Omega.{arith}
 use native.Mathlib.Numerals.{add-one}
 use lib.Dec.{eqb}
-use lib.IntN.{ℤ}
-use lib.ListN.{length, take, drop}
-use lib.Seq.{take-suc}
-use borrow.Author.Tests.{eqb-true, eqb-false}
-use Rattle.paper.proofs.Bools.{split, or_left, or_right, not_both}
+use lib.ListN.{length, take, drop, length-drop}
+use lib.Seq.{take-suc, get_or-drop}
+use borrow.Author.Tests.{eqb-true, eqb-false, ne_eqb}
+use Rattle.paper.proofs.Bools.{split, or_left, or_right}
 use Rattle.paper.specs.Words.{table, any_b}
-use Rattle.paper.specs.Sets.{first_of}
+use Rattle.paper.specs.Sets.{first_of, is_in}
+use Rattle.paper.specs.declared.Serial.{Serial}
+use Rattle.derivation.specs.Lists.{blank_serial, member_at}
+use Rattle.derivation.proofs.Runs.{table_is}
+use Rattle.store.specs.Runs.{members_at}
 use Rattle.paper.specs.declared.Picture.{Picture}
-use Rattle.paper.specs.declared.Found.TheVariants.{Nothing, The}
 use Rattle.paper.proofs.Places.{at_cons, at_end}
-use Rattle.store.specs.Walks.{blank, sought_for, found_of, member_of}
-use Rattle.store.specs.declared.pictures.Sought.TheVariants.{AnyAt, LowAt, ShortAt}
+use Rattle.store.specs.Walks.{blank, found_of, member_of}
 use Rattle.store.specs.declared.Store.{Store}
 use Rattle.store.specs.Places.{place_at, front, stored_in}
 use Rattle.store.proofs.StoreWords.{table_more}
+use Rattle.std.proofs.Common.{None, Some}
+use Rattle.std.specs.List.{list_any}
 
 pub any_append : {A : Type 0} (f : A → Bool) (a b : List A) → any_b f (a ++ b) ≡ (any_b f a || any_b f b)
 unfolding any_b
@@ -52,6 +55,22 @@ module _ {A : Type 0} (f : A → Bool) (g : ℕ → A) where
       (λ q. let x : i ≡ n = eqb-true i n q in or_right (any_b f (table g n)) (f (g n)) (ap (λ (k : ℕ). f (g k)) (sym x) ∙ e))
       (λ q. let d = eqb-false i n q in or_left (any_b f (table g n)) (f (g n)) (any_hit i n (omega arith) e))
 
+same_turned : (a b : ℕ) → eqb a b ≡ eqb b a
+same_turned a b =
+    split (eqb a b) (λ e. let x : a ≡ b = eqb-true a b e in rw x) (λ e. let x = eqb-false a b e in e ∙ sym (ne_eqb b a (λ h. x (sym h))))
+
+-- a part of a run, as its members; and whether a serial is in it
+pub members_run : (xs : List Serial) (from n : ℕ) → from + n ≤ length xs → take (from + n - from) (drop from xs) ≡ members_at xs from n
+members_run xs from n le =
+    let e : from + n - from ≡ n = omega arith in
+    ap (λ (k : ℕ). take k (drop from xs)) e
+    ∙ sym (table_is blank_serial (λ (i : ℕ). member_at xs (from + i)) (drop from xs) n (omega (arith, length-drop from xs)) (λ i l. sym (get_or-drop from xs i blank_serial)))
+
+pub serial_in : (x : Serial) (xs : List Serial) → list_any (λ (y : Serial). eqb y.0 x.0) xs ≡ is_in x xs
+unfolding any_b
+serial_in x [] = refl
+serial_in x (y ∷ xs) = rw (serial_in x xs, same_turned y.0 x.0)
+
 -- ---- the first that is found
 
 module _ (f : Picture → Bool) where
@@ -63,7 +82,7 @@ module _ (f : Picture → Bool) where
 
   -- the search from a place on: it ends here, goes on behind, or is at the end
   module _ (ps : List Picture) (i : ℕ) where
-    pub found_here : i < length ps → f (place_at ps i) ≡ true → found_of f (drop i ps) ≡ The (place_at ps i)
+    pub found_here : i < length ps → f (place_at ps i) ≡ true → found_of f (drop i ps) ≡ Some (place_at ps i)
     unfolding found_of
     found_here lt e = ap (found_of f) (at_cons ps i blank lt) ∙ rw e
 
@@ -71,7 +90,7 @@ module _ (f : Picture → Bool) where
     unfolding found_of
     found_later lt e = sym (ap (found_of f) (at_cons ps i blank lt) ∙ rw e)
 
-    pub found_end : length ps ≤ i → found_of f (drop i ps) ≡ Nothing
+    pub found_end : length ps ≤ i → found_of f (drop i ps) ≡ None
     unfolding found_of
     found_end le = ap (found_of f) (at_end ps i le)
 
@@ -83,12 +102,3 @@ take_front ps (suc n) le = take-suc ps n blank le ∙ ap (λ (l : List Picture).
 
 pub stored_take : (s : Store) → length s.places ≡ 16 → take (min s.len 16) s.places ≡ stored_in s
 stored_take s e = take_front s.places (min s.len 16) (omega arith)
-
--- what an entry asks for, by its way
-pub sought_short : (long : Bool) (k : ℕ) (z : ℤ) (whole : Bool) → not long ≡ true → ShortAt z ≡ sought_for long k z whole
-sought_short true k z whole e = not_both false e refl
-sought_short false k z whole e = refl
-
-pub sought_long : (long : Bool) (k : ℕ) (z : ℤ) (b whole : Bool) → not long ≡ false → whole ≡ b → cond b (AnyAt z) (LowAt k z) ≡ sought_for long k z whole
-sought_long true k z b whole e h = rw h
-sought_long false k z b whole e h = not_both true refl e

@@ -1,5 +1,5 @@
 -- Handing out: a walk, a picture handed out, and round after round.
-use Rattle.std.specs.Prelude.{ℕ, ◌+◌, ◌≡◌, Bool, true, false, cond, not, ◌&&◌, ◌||◌, List, length, eqb, ltb, leb}
+use Rattle.std.specs.Prelude.{None, ℕ, ◌+◌, ◌≡◌, Bool, true, false, cond, not, ◌&&◌, ◌||◌, List, length, eqb, ltb, leb}
 use Rattle.paper.specs.Words.{keep, any_b}
 use Rattle.paper.specs.Output.{still, turns, hand_out, due, leave, stay}
 use Rattle.paper.specs.Output as Output
@@ -11,14 +11,13 @@ use Rattle.store.specs.Places.{front}
 use Rattle.store.specs.Tails.{HoldsTail, waits}
 use Rattle.store.specs.OneWalk.{lower_by, one_walk}
 use Rattle.store.specs.declared.Moved.{Moved}
-use Rattle.store.specs.declared.bumping.Lowest.TheVariants.{Nothing}
 use Rattle.store.specs.declared.bumping.Scan.{Scan}
 use Rattle.store.specs.declared.bumping.Rule.{Rule}
 use Rattle.store.specs.declared.bumping.Rule.TheVariants.{All, Due}
 
 -- one picture more
 abbrev pub nothing_seen : Scan
-nothing_seen = record { waiting = 0; late = false; lowest = Nothing }
+nothing_seen = record { waiting = 0; late = false; lowest = None }
 
 abbrev pub seen_by : Scan → ℕ → Picture → ℕ → Scan
 seen_by c i p latency =

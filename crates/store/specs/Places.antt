@@ -1,11 +1,10 @@
 -- A store by value: sixteen places of picture records, and how many of them are used.
-use Rattle.std.specs.Prelude.{ℕ, zero, suc, min, Bool, cond, List, [], ◌∷◌, get_or, take}
+use Rattle.std.specs.Prelude.{Result, Ok, Err, ℕ, zero, suc, min, Bool, cond, List, [], ◌∷◌, get_or, take}
 use Rattle.paper.specs.Words.{table}
 use Rattle.paper.specs.declared.Picture.{Picture}
 use Rattle.store.specs.Walks.{blank}
 use Rattle.store.specs.declared.Store.{Store}
-use Rattle.store.specs.declared.Room.{Room}
-use Rattle.store.specs.declared.Room.TheVariants.{Enough, Full}
+use Rattle.store.specs.declared.Full.{Full}
 
 -- the picture at place i
 abbrev pub place_at : List Picture → ℕ → Picture
@@ -30,9 +29,9 @@ abbrev pub roomy : List Picture → List Picture
 roomy ps = take 15 ps
 
 -- "9: the current picture must be stored and stored = capacity"; 0: there is room
-abbrev pub room_of : Bool → Room
-room_of full = cond full Full Enough
+abbrev pub room_of : Bool → Result (Unit {0}) Full
+room_of full = cond full (Err (record {})) (Ok tt)
 
-abbrev pub number_of_room : Room → ℕ
-number_of_room Enough = 0
-number_of_room Full = 9
+abbrev pub number_of_room : Result (Unit {0}) Full → ℕ
+number_of_room (Ok x) = 0
+number_of_room (Err x) = 9

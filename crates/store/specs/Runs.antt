@@ -1,7 +1,6 @@
 -- Wishes, what each finds, and the sets in two runs.
-use Rattle.std.specs.Prelude.{ℕ, zero, suc, ◌+◌, ◌-◌, ◌≤◌, min, ◌≡◌, Bool, true, false, cond, not, List, [], ◌∷◌, ◌++◌, get_or, length, set, take, replicate, ℤ, pos}
+use Rattle.std.specs.Prelude.{ℕ, zero, suc, ◌+◌, ◌-◌, ◌≤◌, min, ◌≡◌, Bool, true, false, cond, not, List, [], ◌∷◌, ◌++◌, get_or, length, set, take, replicate, pos}
 use Rattle.paper.specs.Words.{table}
-use Rattle.paper.specs.Numbers.{bit}
 use Rattle.paper.specs.Sets.{Wishes, Sets, is_in, marked, sets_of, marks_of}
 use Rattle.paper.specs.declared.Wish.{Wish}
 use Rattle.paper.specs.declared.Serial.{Serial}
@@ -17,21 +16,24 @@ use Rattle.store.specs.declared.Derived.{Derived}
 use Rattle.store.specs.declared.sets.Settled.{Settled}
 use Rattle.store.specs.declared.sets.Runs.{Runs}
 
--- the wish at a place: its POC, and in the byte beside it bit 0 used, bit 1 whole
-abbrev pub wish_at : List ℤ → List ℕ → ℕ → Wish
-wish_at ps hs i = record { poc = get_or ps i (pos 0); used = bit 0 (get_or hs i 0); whole = bit 1 (get_or hs i 0) }
+-- the wish at a place, and what stands where there is none
+abbrev pub no_wish : Wish
+no_wish = record { poc = pos 0; used = false; whole = false }
+
+abbrev pub wish_at : List Wish → ℕ → Wish
+wish_at ws i = get_or ws i no_wish
 
 -- n wishes from a place on
-abbrev pub wishes_at : List ℤ → List ℕ → ℕ → ℕ → List Wish
-wishes_at ps hs from n = table (λ (i : ℕ). wish_at ps hs (from + i)) n
+abbrev pub wishes_at : List Wish → ℕ → ℕ → List Wish
+wishes_at ws from n = table (λ (i : ℕ). wish_at ws (from + i)) n
 
 -- neg, then pos, then lt
-abbrev pub wishes_in : List ℤ → List ℕ → ℕ → ℕ → ℕ → Wishes
-wishes_in ps hs a b c = record { neg = wishes_at ps hs 0 a; pos = wishes_at ps hs a b; lt = wishes_at ps hs (a + b) c }
+abbrev pub wishes_in : List Wish → ℕ → ℕ → ℕ → Wishes
+wishes_in ws a b c = record { neg = wishes_at ws 0 a; pos = wishes_at ws a b; lt = wishes_at ws (a + b) c }
 
 -- as `wishes_in`, from sixteen places: a count over those that are left counts as those
-abbrev pub wishes_within : List ℤ → List ℕ → ℕ → ℕ → ℕ → Wishes
-wishes_within ps hs a b c = let n = min a 16 in let p = min b (16 - n) in wishes_in ps hs n p (min c (16 - n - p))
+abbrev pub wishes_within : List Wish → ℕ → ℕ → ℕ → Wishes
+wishes_within ws a b c = let n = min a 16 in let p = min b (16 - n) in wishes_in ws n p (min c (16 - n - p))
 
 -- ---- a walk over places
 
@@ -48,9 +50,8 @@ changed d g (suc n) xs = set (changed d g n xs) n (g (get_or (changed d g n xs) 
 -- ---- step 4 on places: what each entry finds, and the marks
 
 -- what the entry at i finds among these pictures
-abbrev pub member_for : Bool → ℕ → List Picture → List ℤ → List ℕ → ℕ → Serial
-member_for long k ps pocs hows i =
-    member_of (found_of (passing (sought_for long k (get_or pocs i (pos 0)) (bit 1 (get_or hows i 0)))) ps)
+abbrev pub member_for : Bool → ℕ → List Picture → List Wish → ℕ → Serial
+member_for long k ps ws i = member_of (found_of (passing (sought_for long k (wish_at ws i))) ps)
 
 -- n members from a place on
 abbrev pub members_at : List Serial → ℕ → ℕ → List Serial
@@ -61,17 +62,17 @@ abbrev pub marking : Bool → Mark → List Serial → Picture → Picture
 marking true m ns p = cond (is_in p.serial ns) (marked m p) p
 marking false m ns p = cond (is_in p.serial ns) p (marked m p)
 
-module _ (k : ℕ) (pocs : List ℤ) (hows : List ℕ) (shorts longs n : ℕ) (ps : List Picture) where
+module _ (k : ℕ) (ws : List Wish) (shorts longs n : ℕ) (ps : List Picture) where
   -- what the long-term entries find, and the marks that it gives
   abbrev pub long_found : List Serial
-  long_found = filled (member_for true k (take n ps) pocs hows) shorts longs (replicate 16 blank_serial)
+  long_found = filled (member_for true k (take n ps) ws) shorts longs (replicate 16 blank_serial)
 
   abbrev pub long_places : List Picture
   long_places = changed blank (marking true LongTerm (members_at long_found shorts longs)) n ps
 
   -- what all entries find, and the marks that are left
   abbrev pub all_found : List Serial
-  all_found = filled (member_for false k (take n long_places) pocs hows) 0 shorts long_found
+  all_found = filled (member_for false k (take n long_places) ws) 0 shorts long_found
 
   abbrev pub all_places : List Picture
   all_places = changed blank (marking false Unmarked (members_at all_found 0 (shorts + longs))) n long_places
@@ -83,14 +84,14 @@ module _ (k : ℕ) (pocs : List ℤ) (hows : List ℕ) (shorts longs n : ℕ) (p
 -- ---- the sets in two runs
 
 pub record HoldsRuns (x : Runs) (us vs : List Serial) : Type 0 where
-  pub first : Padded 16 blank_serial x.first x.used us
-  pub second : Padded 16 blank_serial x.second x.rest vs
+  pub first : Padded 16 blank_serial x.used.items x.used.len us
+  pub second : Padded 16 blank_serial x.rest.items x.rest.len vs
 
 abbrev pub used_in : Runs → List Serial
-used_in x = used x.used x.first
+used_in x = used x.used.len x.used.items
 
 abbrev pub rest_in : Runs → List Serial
-rest_in x = used x.rest x.second
+rest_in x = used x.rest.len x.rest.items
 
 abbrev pub GoodRuns : Runs → Type 0
 GoodRuns x = HoldsRuns x (used_in x) (rest_in x)
@@ -101,11 +102,11 @@ picked b f zero = []
 picked b f (suc n) = picked b f n ++ cond (b n) (f n ∷ []) []
 
 -- what the used ones, and the others, of n entries from a place on found
-abbrev pub used_at : List Serial → List ℕ → ℕ → ℕ → List Serial
-used_at fs hs from n = picked (λ (i : ℕ). bit 0 (get_or hs (from + i) 0)) (λ (i : ℕ). member_at fs (from + i)) n
+abbrev pub used_at : List Serial → List Wish → ℕ → ℕ → List Serial
+used_at fs ws from n = picked (λ (i : ℕ). (wish_at ws (from + i)).used) (λ (i : ℕ). member_at fs (from + i)) n
 
-abbrev pub unused_at : List Serial → List ℕ → ℕ → ℕ → List Serial
-unused_at fs hs from n = picked (λ (i : ℕ). not (bit 0 (get_or hs (from + i) 0))) (λ (i : ℕ). member_at fs (from + i)) n
+abbrev pub unused_at : List Serial → List Wish → ℕ → ℕ → List Serial
+unused_at fs ws from n = picked (λ (i : ℕ). not (wish_at ws (from + i)).used) (λ (i : ℕ). member_at fs (from + i)) n
 
 -- the five sets, in two runs: StCurrBefore, StCurrAfter, LtCurr, and StFoll, LtFoll
 pub record HoldsSets (us vs : List Serial) (x : Sizes) (s : Sets) : Type 0 where

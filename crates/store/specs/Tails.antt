@@ -1,6 +1,6 @@
 -- A tail by value: the pictures handed out, the serials thrown away and the surfaces released, each in places of its
 -- own type with their number beside them, and blank behind it.
-use Rattle.std.specs.Prelude.{ℕ, ◌+◌, ◌≤◌, ◌≡◌, Bool, not, ◌||◌, List, [], ◌++◌, map, length, pos}
+use Rattle.std.specs.Prelude.{ℕ, ◌+◌, ◌≤◌, ◌≡◌, Bool, not, ◌||◌, List, [], ◌++◌, map, length, set, pos}
 use Rattle.paper.specs.Words.{keep}
 use Rattle.paper.specs.Output.{in_use}
 use Rattle.paper.specs.Output as Output
@@ -12,9 +12,7 @@ use Rattle.derivation.specs.Pad.{Padded, used}
 use Rattle.derivation.specs.Lists.{blank_serial}
 use Rattle.store.specs.Walks.{serial_of, surface_of}
 use Rattle.store.specs.Places.{front}
-use Rattle.store.specs.declared.Handed.{Handed}
-use Rattle.store.specs.declared.Thrown.{Thrown}
-use Rattle.store.specs.declared.Released.{Released}
+use Rattle.store.specs.declared.Run.{Run}
 use Rattle.store.specs.declared.Moved.{Moved}
 
 -- ---- the parts of a tail
@@ -25,14 +23,32 @@ no_surface = record { 0 = 0 }
 abbrev pub no_shown : Shown
 no_shown = record { serial = blank_serial; surface = no_surface; poc = pos 0 }
 
+-- the runs by the names that the code has for them
+abbrev pub Handed : Type 0
+Handed = Run Shown 16
+
+abbrev pub Thrown : Type 0
+Thrown = Run Serial 17
+
+abbrev pub Released : Type 0
+Released = Run Surface 17
+
+-- one more, behind those that are used
+abbrev pub pushed : {A : Type 0} {n : ℕ} → Run A n → A → Run A n
+pushed x y = record { items = set x.items x.len y; len = x.len + 1 }
+
+-- n places, of which those that are used hold xs, and d in every other
+abbrev pub HoldsRun : {A : Type 0} {n : ℕ} → A → Run A n → List A → Type 0
+HoldsRun {A} {n} d x xs = Padded n d x.items x.len xs
+
 abbrev pub HoldsHanded : Handed → List Shown → Type 0
-HoldsHanded h xs = Padded 16 no_shown h.items h.len xs
+HoldsHanded = HoldsRun no_shown
 
 abbrev pub HoldsThrown : Thrown → List Serial → Type 0
-HoldsThrown y xs = Padded 17 blank_serial y.items y.len xs
+HoldsThrown = HoldsRun blank_serial
 
 abbrev pub HoldsReleased : Released → List Surface → Type 0
-HoldsReleased x xs = Padded 17 no_surface x.items x.len xs
+HoldsReleased = HoldsRun no_surface
 
 -- what they hold
 abbrev pub handed_in : Handed → List Shown

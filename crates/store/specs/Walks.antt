@@ -10,11 +10,11 @@ use Rattle.paper.specs.declared.Serial.{Serial}
 use Rattle.paper.specs.declared.Surface.{Surface}
 use Rattle.paper.specs.declared.Mark.TheVariants.{Unmarked}
 use Rattle.paper.specs.declared.Picture.{Picture}
-use Rattle.paper.specs.declared.Found.{Found}
-use Rattle.paper.specs.declared.Found.TheVariants.{Nothing, The}
+use Rattle.paper.specs.declared.Wish.{Wish}
 use Rattle.store.specs.declared.pictures.Sought.{Sought}
 use Rattle.store.specs.declared.pictures.Sought.TheVariants.{AnyAt, LowAt, ShortAt, HeldBy}
 use Rattle.store.specs.declared.pictures.Change.{Change}
+use Rattle.std.specs.Prelude.{Option, None, Some}
 
 -- "any mark and equal POC", "or equal POC mod M", "short-term .. of equal POC"
 abbrev pub any_at : ℤ → Picture → Bool
@@ -37,17 +37,17 @@ passing (ShortAt z) = short_at z
 passing (HeldBy x) = held_by x
 
 -- what an entry asks for: a long-term one by its whole POC or by its low bits, a short-term one
-abbrev pub sought_for : Bool → ℕ → ℤ → Bool → Sought
-sought_for long k z whole = cond long (cond whole (AnyAt z) (LowAt k z)) (ShortAt z)
+abbrev pub sought_for : Bool → ℕ → Wish → Sought
+sought_for long k w = cond long (cond w.whole (AnyAt w.poc) (LowAt k w.poc)) (ShortAt w.poc)
 
 -- "first stored picture with ..", and what it is in a set: its serial, or `missing`
-unfoldable pub found_of : (Picture → Bool) → List Picture → Found
-found_of t [] = Nothing
-found_of t (p ∷ ps) = cond (t p) (The p) (found_of t ps)
+unfoldable pub found_of : (Picture → Bool) → List Picture → Option Picture
+found_of t [] = None
+found_of t (p ∷ ps) = cond (t p) (Some p) (found_of t ps)
 
-abbrev pub member_of : Found → Serial
-member_of Nothing = missing
-member_of (The p) = p.serial
+abbrev pub member_of : Option Picture → Serial
+member_of None = missing
+member_of (Some p) = p.serial
 
 abbrev pub serial_of : Picture → Serial
 serial_of p = p.serial

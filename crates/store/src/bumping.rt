@@ -14,10 +14,10 @@ use crate::{Handed, Moved, Released, Store, Thrown};
 use paper::{Limits, Picture, Shown};
 
 // The lowest waiting picture: its place and its POC, of two with one POC the earlier stored.
-#[derive(Clone, Copy)]
-pub enum Lowest {
-    Nothing,
-    At(usize, i32),
+#[derive(Clone, Copy, PartialEq, Eq)]
+pub struct Lowest {
+    pub at: usize,
+    pub poc: i32,
 }
 
 // What one walk over the pictures finds: how many wait, whether one of them is late, and the lowest.
@@ -25,11 +25,12 @@ pub enum Lowest {
 pub struct Scan {
     pub waiting: usize,
     pub late: bool,
-    pub lowest: Lowest,
+    pub lowest: Option<Lowest>,
 }
 
 // How long pictures are handed out: while one waits, each leaving even if marked; or while one is due, with the
 // buffering test or without it.
+// Kept: two rules with names of their own; as an `Option` neither would say what it is.
 #[derive(Clone, Copy)]
 pub enum Rule {
     All,
@@ -43,7 +44,7 @@ fn nothing_seen() -> Scan
     Scan {
         waiting: 0,
         late: false,
-        lowest: Lowest::Nothing,
+        lowest: None,
     }
 }
 
@@ -55,18 +56,12 @@ fn is_lower(a: i32, b: i32) -> bool
 }
 
 // The lowest, with one more at place i.
-fn lower(x: Lowest, i: usize, poc: i32) -> Lowest
-    ensures { result ≡ lower_by x i poc }
+fn lower(x: Option<Lowest>, at: usize, poc: i32) -> Option<Lowest>
+    ensures { result ≡ lower_by x at poc }
 {
     match x {
-        Lowest::Nothing => Lowest::At(i, poc),
-        Lowest::At(at, least) => {
-            if is_lower(poc, least) {
-                Lowest::At(i, poc)
-            } else {
-                Lowest::At(at, least)
-            }
-        }
+        Some(low) if !is_lower(poc, low.poc) => x,
+        _ => Some(Lowest { at, poc }),
     }
 }
 
@@ -78,11 +73,10 @@ fn seen(c: Scan, i: usize, p: Picture, latency: u32) -> Scan
     if !p.waiting {
         return c;
     }
-    let x = c.lowest;
     Scan {
         waiting: c.waiting + 1,
         late: c.late | (latency <= p.count),
-        lowest: lower(x, i, p.poc),
+        lowest: lower(c.lowest, i, p.poc),
     }
 }
 
@@ -97,11 +91,8 @@ pub(crate) fn find_lowest_poc_for_bumping(
     ensures { Scans places n latency result }
 {
     let mut c = nothing_seen();
-    let mut i: usize = 0;
-    while i < n {
-        let p = places[i];
-        c = seen(c, i, p, latency);
-        i += 1;
+    for i in 0..n {
+        c = seen(c, i, places[i], latency);
     }
     c
 }
@@ -110,9 +101,8 @@ pub(crate) fn find_lowest_poc_for_bumping(
 fn needs_additional_bumping(c: Scan, l: Limits) -> bool
     ensures { result ≡ due_by l c.waiting c.late }
 {
-    let latency = l.latency as u32;
     let over = (l.reorder as usize) < c.waiting;
-    over | (!(latency == 0) & c.late)
+    over | ((l.latency != 0) & c.late)
 }
 
 // Whether a picture is to be handed out, if one waits: by the rule's tests, with the buffering test where it asks for
@@ -160,19 +150,16 @@ pub(crate) fn latency_of(rule: Rule) -> u32
 fn leaves(rule: Rule, p: Picture) -> bool
     ensures { result ≡ (always_by rule || not (is_marked p.mark)) }
 {
-    let m = p.mark;
-    leaves_always(rule) | !is_marked(m)
+    leaves_always(rule) | !is_marked(p.mark)
 }
 
 // What the tail tells of a picture handed out.
 fn shown_of(p: Picture) -> Shown
     ensures { result ≡ shown p }
 {
-    let serial = p.serial;
-    let surface = p.surface;
     Shown {
-        serial,
-        surface,
+        serial: p.serial,
+        surface: p.surface,
         poc: p.poc,
     }
 }
@@ -183,12 +170,7 @@ fn remove(ps: [Picture; Store::CAPACITY], n: usize, at: usize) -> [Picture; Stor
     ensures { front result (n - 1) ≡ without_at at (front ps n) }
 {
     let mut places = ps;
-    let mut i = at + 1;
-    while i < n {
-        let p = places[i];
-        places[i - 1] = p;
-        i += 1;
-    }
+    places.copy_within(at + 1..n, at);
     places
 }
 
@@ -212,24 +194,18 @@ pub(crate) fn bump_as_needed(
     let mut released = x;
     let latency = latency_of(rule);
     let mut c = first;
-    let mut i: usize = 0;
-    while i < n {
-        let low = c.lowest;
-        let Lowest::At(at, poc) = low else {
+    for _ in 0..n {
+        let Some(low) = c.lowest else {
             break;
         };
         if !needs_bumping(rule, c, len) {
             break;
         }
+        let at = low.at;
         let p = places[at];
-        let surface = p.surface;
-        let k = handed.len;
-        handed.items[k] = shown_of(p);
-        handed.len = k + 1;
+        handed.push(shown_of(p));
         if leaves(rule, p) {
-            let j = released.len;
-            released.items[j] = surface;
-            released.len = j + 1;
+            released.push(p.surface);
             places = remove(places, len, at);
             len -= 1;
         } else {
@@ -240,7 +216,6 @@ pub(crate) fn bump_as_needed(
             break;
         }
         c = find_lowest_poc_for_bumping(places, len, latency);
-        i += 1;
     }
     Moved::of(places, len, handed, Thrown::none(), released)
 }

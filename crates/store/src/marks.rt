@@ -5,7 +5,7 @@ ghost use Rattle.store.specs.Walks.{blank};
 ghost use Rattle.store.specs.Runs.{members_at, marking, changed};
 
 use crate::Store;
-use crate::pictures::with_mark;
+use crate::lent::mark_where_in;
 use paper::{Mark, Picture, Serial};
 
 // Whether a serial is among n of a run, from a place on.
@@ -13,15 +13,7 @@ pub(crate) fn is_among(x: Serial, xs: [Serial; Store::CAPACITY], from: usize, n:
     requires { from + n ≤ 16 }
     ensures { result ≡ is_in x (members_at xs from n) }
 {
-    let mut i: usize = 0;
-    while i < n {
-        let y = xs[from + i];
-        if x.0 == y.0 {
-            return true;
-        }
-        i += 1;
-    }
-    false
+    xs[from..from + n].contains(&x)
 }
 
 // The first m pictures, of which those among n members from a place on (`inside`), or those not among them, get a mark.
@@ -38,14 +30,6 @@ pub(crate) fn mark_where(
     ensures { result ≡ changed blank (marking inside mark (members_at xs from n)) m places }
 {
     let mut r = places;
-    let mut i: usize = 0;
-    while i < m {
-        let p = r[i];
-        let x = p.serial;
-        if is_among(x, xs, from, n) == inside {
-            r[i] = with_mark(p, mark);
-        }
-        i += 1;
-    }
+    mark_where_in(&mut r, m, xs, from, n, inside, mark);
     r
 }

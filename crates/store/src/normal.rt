@@ -6,7 +6,7 @@ ghost use Rattle.store.specs.Decides.{Decides};
 ghost use Rattle.store.specs.StoreWords.{words_at, picture_words, Neat, InOrder, NormalForm};
 
 use crate::Store;
-use crate::words::{PLACE, USED, flag_word, mark_word, picture_at, wide};
+use crate::words::{PLACE, USED, flag_word, mark_word, picture_at};
 
 // Whether a place is written as its picture is. A serial, a surface and a count are what their words are.
 fn is_neat(store: &[u32; Store::WORDS], i: usize) -> bool
@@ -15,9 +15,8 @@ fn is_neat(store: &[u32; Store::WORDS], i: usize) -> bool
 {
     let at = PLACE * i;
     let p = picture_at(store, i);
-    let mark = p.mark;
     let of_poc = wire::bits(p.poc);
-    let of_mark = mark_word(mark);
+    let of_mark = mark_word(p.mark);
     let of_flag = flag_word(p.waiting);
     (store[at + 2] == of_poc) & (store[at + 3] == of_mark) & (store[at + 4] == of_flag)
 }
@@ -49,16 +48,14 @@ fn in_order(store: &[u32; Store::WORDS], n: usize, i: usize) -> bool
 pub fn is_normal(store: &[u32; Store::WORDS]) -> bool
     ensures { Decides result (NormalForm store.now) }
 {
-    let n = wide(store[USED]);
+    let n = store[USED] as usize;
     if Store::CAPACITY < n {
         return false;
     }
-    let mut i: usize = 0;
-    while i < Store::CAPACITY {
+    for i in 0..Store::CAPACITY {
         if !in_order(store, n, i) {
             return false;
         }
-        i += 1;
     }
     true
 }

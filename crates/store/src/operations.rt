@@ -9,7 +9,7 @@ ghost use Rattle.store.specs.Tails.{HoldsMoved, HoldsTail, GoodMoved, GoodReleas
 use crate::bumping::{Rule, bump_as_needed, find_lowest_poc_for_bumping, is_due, latency_of};
 use crate::removal::{release_all, remove_unused, throw_waiting};
 use crate::{Handed, Moved, Released, Store, Thrown};
-use paper::{Current, Limits, Mark, Now, Picture};
+use paper::{Current, Limits, Mark, Picture};
 
 // The stored pictures, and the current one behind them: short-term, count 0, waiting if its output flag is 1 (C.5.2.3).
 // Where every place is used it takes the last one.
@@ -18,22 +18,15 @@ fn store_picture(s: Store, c: Current) -> Store
         × (front result.places result.len ≡ front s.places (min s.len 15) ++ (storedBy c ∷ [])) }
 {
     let mut places = s.places;
-    let n = s.len;
-    let serial = c.serial;
-    let surface = c.surface;
     let p = Picture {
-        serial,
-        surface,
+        serial: c.serial,
+        surface: c.surface,
         poc: c.poc,
         mark: Mark::ShortTerm,
         waiting: c.output,
         count: 0,
     };
-    let at = if n < Store::CAPACITY {
-        n
-    } else {
-        Store::CAPACITY - 1
-    };
+    let at = s.len.min(Store::CAPACITY - 1);
     places[at] = p;
     Store {
         places,
@@ -55,8 +48,7 @@ pub(crate) fn start(s: Store) -> Moved
     ensures { HoldsMoved result
         (record { pics = front s.places s.len; tail = record { handed = []; thrown = []; released = [] } }) }
 {
-    let places = s.places;
-    untouched(places, s.len, Released::none())
+    untouched(s.places, s.len, Released::none())
 }
 
 // All that wait are handed out, each leaving even if marked; then those that are left leave, behind those released so
@@ -67,9 +59,8 @@ fn empty_out(s: Store, x: Released) -> Moved
 {
     let places = s.places;
     let n = s.len;
-    let rule = Rule::All;
-    let c = find_lowest_poc_for_bumping(places, n, latency_of(rule));
-    release_all(bump_as_needed(places, n, x, rule, c))
+    let c = find_lowest_poc_for_bumping(places, n, latency_of(Rule::All));
+    release_all(bump_as_needed(places, n, x, Rule::All, c))
 }
 
 // The store is cleared: those that wait are thrown away, all are released, behind what the tail has so far.
@@ -135,18 +126,12 @@ fn after(x: Moved, y: Moved) -> Moved
     ensures { Follows x y result }
 {
     let mut r = y;
-    let mut handed = x.handed;
-    let mut k = x.shown;
+    let k = x.shown;
     let n = y.shown;
-    let mut i: usize = 0;
-    while i < n {
-        let p = y.handed[i];
-        handed[k] = p;
-        k += 1;
-        i += 1;
-    }
+    let mut handed = x.handed;
+    handed[k..k + n].copy_from_slice(&y.handed[..n]);
     r.handed = handed;
-    r.shown = k;
+    r.shown = k + n;
     r
 }
 
@@ -184,12 +169,10 @@ fn drop_current(s: Store, c: Current) -> Moved
     ensures { HoldsMoved result (record { pics = front s.places s.len; tail = dropped c }) }
 {
     let mut m = start(s);
-    let surface = c.surface;
-    m.released[0] = surface;
+    m.released[0] = c.surface;
     m.freed = 1;
     if c.output {
-        let serial = c.serial;
-        m.thrown[0] = serial;
+        m.thrown[0] = c.serial;
         m.dropped = 1;
     }
     m
@@ -203,12 +186,12 @@ pub fn abandon(c: Current) -> Moved
 }
 
 // Discard: the current picture is thrown away and released first, then the store is cleared.
-pub(crate) fn discard(s: Store, x: Now) -> Moved
+pub(crate) fn discard(s: Store, x: Option<Current>) -> Moved
     requires { s.len ≤ 16 }
     ensures { HoldsMoved result (discarded (front s.places s.len) x) }
 {
     match x {
-        Now::Idle => clear(start(s)),
-        Now::Is(c) => clear(drop_current(s, c)),
+        None => clear(start(s)),
+        Some(c) => clear(drop_current(s, c)),
     }
 }

@@ -16,6 +16,7 @@ const COUNT_LIMIT: u32 = 2147483647;
 
 // What a walk over the stored pictures looks for: any mark and this POC; any mark and a POC of these low k bits; a
 // short-term picture of this POC; one that holds this surface.
+// Kept: which test it is hangs on the entry of a record, so it is a value and no closure.
 #[derive(Clone, Copy)]
 pub enum Sought {
     AnyAt(i32),
@@ -28,22 +29,14 @@ pub enum Sought {
 pub(crate) fn is_marked(m: Mark) -> bool
     ensures { result ≡ is_marked m }
 {
-    match m {
-        Mark::Unmarked => false,
-        Mark::ShortTerm => true,
-        Mark::LongTerm => true,
-    }
+    m != Mark::Unmarked
 }
 
 // Whether a mark is "used for short-term reference".
 pub(crate) fn is_short_term(m: Mark) -> bool
     ensures { result ≡ is_short_term m }
 {
-    match m {
-        Mark::Unmarked => false,
-        Mark::ShortTerm => true,
-        Mark::LongTerm => false,
-    }
+    m == Mark::ShortTerm
 }
 
 // Whether two POCs are equal.
@@ -65,32 +58,28 @@ pub(crate) fn same_low(k: u8, poc: i32, low: i32) -> bool
 fn is_any_at(p: Picture, poc: i32) -> bool
     ensures { result ≡ any_at poc p }
 {
-    let m = p.mark;
-    is_marked(m) & same_poc(p.poc, poc)
+    is_marked(p.mark) & same_poc(p.poc, poc)
 }
 
 // Whether p has any mark and a POC of these low k bits.
 fn is_low_at(p: Picture, k: u8, low: i32) -> bool
     ensures { result ≡ low_at (2 ^ (min k 16)) low p }
 {
-    let m = p.mark;
-    is_marked(m) & same_low(k, p.poc, low)
+    is_marked(p.mark) & same_low(k, p.poc, low)
 }
 
 // Whether p is a short-term picture of this POC.
 fn is_short_at(p: Picture, poc: i32) -> bool
     ensures { result ≡ short_at poc p }
 {
-    let m = p.mark;
-    is_short_term(m) & same_poc(p.poc, poc)
+    is_short_term(p.mark) & same_poc(p.poc, poc)
 }
 
 // Whether p holds the surface x.
 fn is_held_by(p: Picture, x: Surface) -> bool
     ensures { result ≡ held_by x p }
 {
-    let y = p.surface;
-    x.0 == y.0
+    p.surface == x
 }
 
 // Whether p is what a walk looks for.
@@ -109,27 +98,19 @@ pub(crate) fn passes(t: Sought, p: Picture) -> bool
 pub(crate) fn with_mark(p: Picture, m: Mark) -> Picture
     ensures { result ≡ marked m p }
 {
-    let serial = p.serial;
-    let surface = p.surface;
-    Picture {
-        serial,
-        surface,
-        poc: p.poc,
-        mark: m,
-        waiting: p.waiting,
-        count: p.count,
-    }
+    Picture { mark: m, ..p }
 }
 
 // The next count: one more, stopping at 2,147,483,647.
 pub(crate) fn next_count(n: u32) -> u32
     ensures { result ≡ cond (ltb n count_limit) (n + 1) count_limit }
 {
-    if n < COUNT_LIMIT { n + 1 } else { COUNT_LIMIT }
+    n.saturating_add(1).min(COUNT_LIMIT)
 }
 
 // What is done to each picture of a store that is read from its words: nothing; its count rises by 1; it loses its
 // mark.
+// Kept: which one it is hangs on the begun picture, so it is a value and no closure.
 #[derive(Clone, Copy)]
 pub enum Change {
     Nothing,
@@ -155,16 +136,9 @@ pub(crate) fn none() -> Picture
 fn raise(p: Picture) -> Picture
     ensures { result ≡ raised p }
 {
-    let serial = p.serial;
-    let surface = p.surface;
-    let mark = p.mark;
     Picture {
-        serial,
-        surface,
-        poc: p.poc,
-        mark,
-        waiting: p.waiting,
         count: next_count(p.count),
+        ..p
     }
 }
 
@@ -183,15 +157,8 @@ pub(crate) fn read_as(p: Picture, x: Change) -> Picture
 pub(crate) fn end_waiting(p: Picture) -> Picture
     ensures { result ≡ quieted p }
 {
-    let serial = p.serial;
-    let surface = p.surface;
-    let mark = p.mark;
     Picture {
-        serial,
-        surface,
-        poc: p.poc,
-        mark,
         waiting: false,
-        count: p.count,
+        ..p
     }
 }

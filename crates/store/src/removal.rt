@@ -22,8 +22,7 @@ pub(crate) struct Freed {
 fn is_used(p: Picture) -> bool
     ensures { result ≡ in_use p }
 {
-    let m = p.mark;
-    p.waiting | is_marked(m)
+    p.waiting | is_marked(p.mark)
 }
 
 // The stored pictures but for those that neither wait nor are marked, whose surfaces are released.
@@ -38,19 +37,14 @@ pub(crate) fn remove_unused(s: Store) -> Freed
     let mut places = s.places;
     let mut released = Released::none();
     let mut k: usize = 0;
-    let mut i: usize = 0;
-    while i < n {
+    for i in 0..n {
         let p = places[i];
         if is_used(p) {
             places[k] = p;
             k += 1;
         } else {
-            let surface = p.surface;
-            let j = released.len;
-            released.items[j] = surface;
-            released.len = j + 1;
+            released.push(p.surface);
         }
-        i += 1;
     }
     Freed {
         places,
@@ -66,14 +60,10 @@ pub(crate) fn release_all(m: Moved) -> Moved
 {
     let mut r = m;
     let n = r.len;
-    let mut i: usize = 0;
-    while i < n {
-        let p = r.places[i];
-        let surface = p.surface;
+    for i in 0..n {
         let k = r.freed;
-        r.released[k] = surface;
+        r.released[k] = r.places[i].surface;
         r.freed = k + 1;
-        i += 1;
     }
     r.len = 0;
     r
@@ -86,16 +76,13 @@ pub(crate) fn throw_waiting(m: Moved) -> Moved
 {
     let mut r = m;
     let n = r.len;
-    let mut i: usize = 0;
-    while i < n {
+    for i in 0..n {
         let p = r.places[i];
         if p.waiting {
-            let serial = p.serial;
             let k = r.dropped;
-            r.thrown[k] = serial;
+            r.thrown[k] = p.serial;
             r.dropped = k + 1;
         }
-        i += 1;
     }
     r
 }

@@ -7,9 +7,9 @@ ghost use Rattle.store.specs.Runs.{Derives};
 use crate::lent::settle_in;
 use crate::marks::mark_where;
 use crate::searches::find_members;
-use crate::{Derived, Sizes, Store};
-use paper::{Mark, Picture, Serial};
-use wire::flag_bytes;
+use crate::{Derived, Run, Sizes, Store};
+use derivation::CAPACITY;
+use paper::{Mark, Picture, Serial, Wish};
 
 // The places of a store after step 4, and what each entry found: neg, pos and lt ones, one behind the other.
 #[derive(Clone, Copy)]
@@ -21,10 +21,8 @@ pub struct Settled {
 // Two runs of members: one of the used entries, one of the others.
 #[derive(Clone, Copy)]
 pub struct Runs {
-    pub first: [Serial; Store::CAPACITY],
-    pub used: usize,
-    pub second: [Serial; Store::CAPACITY],
-    pub rest: usize,
+    pub used: Run<Serial, CAPACITY>,
+    pub rest: Run<Serial, CAPACITY>,
 }
 
 // Step 4 of begin on the first m places: what the long-term entries ask for is found, and those found become long-term;
@@ -34,19 +32,17 @@ pub(crate) fn settle(
     places: [Picture; Store::CAPACITY],
     m: usize,
     k: u8,
-    pocs: &[i32; Store::CAPACITY],
-    hows: &[u8; Store::CAPACITY],
+    wishes: &[Wish; Store::CAPACITY],
     shorts: usize,
     longs: usize,
 ) -> Settled
     requires { (m ≤ 16) × (shorts + longs ≤ 16) }
-    ensures { Settles k pocs.now hows.now shorts longs m places result }
+    ensures { Settles k wishes.now shorts longs m places result }
 {
-    let blank = Serial(0);
-    let none = [blank; Store::CAPACITY];
-    let f = find_members(places, m, true, k, pocs, hows, shorts, longs, none);
+    let none = [Serial(0); Store::CAPACITY];
+    let f = find_members(places, m, true, k, wishes, shorts, longs, none);
     let ps = mark_where(places, m, f, shorts, longs, true, Mark::LongTerm);
-    let found = find_members(ps, m, false, k, pocs, hows, 0, shorts, f);
+    let found = find_members(ps, m, false, k, wishes, 0, shorts, f);
     let qs = mark_where(ps, m, found, 0, shorts + longs, false, Mark::Unmarked);
     Settled { places: qs, found }
 }
@@ -55,45 +51,35 @@ pub(crate) fn settle(
 fn no_runs() -> Runs
     ensures { HoldsRuns result [] [] }
 {
-    let blank = Serial(0);
-    let first = [blank; Store::CAPACITY];
-    let second = [blank; Store::CAPACITY];
     Runs {
-        first,
-        used: 0,
-        second,
-        rest: 0,
+        used: Run::of(Serial(0)),
+        rest: Run::of(Serial(0)),
     }
 }
 
 // What n entries from a place on found joins the two runs.
 fn split(
     found: [Serial; Store::CAPACITY],
-    hows: &[u8; Store::CAPACITY],
+    wishes: &[Wish; Store::CAPACITY],
     from: usize,
     n: usize,
     x: Runs,
 ) -> Runs
-    requires { GoodRuns x × (from + n ≤ 16) × (x.used + x.rest + n ≤ 16) }
-    ensures few { (result.used + result.rest ≡ x.used + x.rest + n) × (x.used ≤ result.used) × (x.rest ≤ result.rest) }
-    ensures holds { HoldsRuns result (used_in x ++ used_at found hows.now from n)
-        (rest_in x ++ unused_at found hows.now from n) }
+    requires { GoodRuns x × (from + n ≤ 16) × (x.used.len + x.rest.len + n ≤ 16) }
+    ensures few { (result.used.len + result.rest.len ≡ x.used.len + x.rest.len + n) × (x.used.len ≤ result.used.len)
+        × (x.rest.len ≤ result.rest.len) }
+    ensures holds { HoldsRuns result (used_in x ++ used_at found wishes.now from n)
+        (rest_in x ++ unused_at found wishes.now from n) }
 {
     let mut r = x;
-    let mut i: usize = 0;
-    while i < n {
+    for i in 0..n {
         let at = from + i;
         let y = found[at];
-        if flag_bytes::bit0(hows[at]) {
-            let a = r.used;
-            r.first[a] = y;
-            r.used = a + 1;
+        if wishes[at].used {
+            r.used.push(y);
         } else {
-            let b = r.rest;
-            r.second[b] = y;
-            r.rest = b + 1;
+            r.rest.push(y);
         }
-        i += 1;
     }
     r
 }
@@ -103,32 +89,30 @@ fn split(
 pub(crate) fn derive_and_mark_rps(
     s: Store,
     k: u8,
-    pocs: &[i32; Store::CAPACITY],
-    hows: &[u8; Store::CAPACITY],
+    wishes: &[Wish; Store::CAPACITY],
     neg: usize,
     pos: usize,
     lt: usize,
 ) -> Derived
     requires { (s.len ≤ 16) × (neg + pos + lt ≤ 16) }
     ensures { Derives (2 ^ (min k 16)) (stored_in s)
-        (wishes_in pocs.now hows.now neg pos lt) result }
+        (wishes_in wishes.now neg pos lt) result }
 {
     let n = s.len;
-    let places = s.places;
-    let t = settle_in(places, n, k, pocs, hows, neg + pos, lt);
+    let t = settle_in(s.places, n, k, wishes, neg + pos, lt);
     let found = t.found;
-    let x = split(found, hows, 0, neg, no_runs());
-    let y = split(found, hows, neg, pos, x);
-    let z = split(found, hows, neg + pos, lt, y);
+    let x = split(found, wishes, 0, neg, no_runs());
+    let y = split(found, wishes, neg, pos, x);
+    let z = split(found, wishes, neg + pos, lt, y);
     let left = t.places;
-    let first = z.first;
-    let second = z.second;
+    let first = z.used.items;
+    let second = z.rest.items;
     let sizes = Sizes {
-        before: x.used,
-        after: y.used - x.used,
-        long: z.used - y.used,
-        foll: y.rest,
-        lt_foll: z.rest - y.rest,
+        before: x.used.len,
+        after: y.used.len - x.used.len,
+        long: z.used.len - y.used.len,
+        foll: y.rest.len,
+        lt_foll: z.rest.len - y.rest.len,
     };
     let store = Store {
         places: left,

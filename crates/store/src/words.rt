@@ -7,7 +7,7 @@ ghost use Rattle.paper.specs.Step.{held_by};
 ghost use Rattle.paper.specs.Sets.{unmarked_if};
 ghost use Rattle.paper.specs.Output.{emptied, before_decoding};
 ghost use Rattle.paper.specs.Calls.{finished, drained, discarded};
-ghost use Rattle.paper.specs.declared.Now.TheVariants.{Is};
+ghost use Rattle.std.specs.Prelude.{Some};
 ghost use Rattle.store.specs.Walks.{blank, change_by, unmark_if};
 ghost use Rattle.store.specs.StoreWords.{flag_of, flag_word, mark_of, mark_word, picture_at, pictures};
 ghost use Rattle.store.specs.StoreWords.{stored, count_in};
@@ -18,9 +18,8 @@ ghost use Rattle.store.specs.Runs.{wishes_within, Derives};
 
 use crate::pictures::{Change, Sought, none, passes, read_as};
 use crate::searches::used_in;
-use crate::{Derived, Moved, Room, Store, operations, sets};
-use derivation::fewer;
-use paper::{Current, Limits, Mark, Now, Picture, Serial, Surface};
+use crate::{Derived, Full, Moved, Store, operations, sets};
+use paper::{Current, Limits, Mark, Picture, Serial, Surface, Wish};
 
 // Where the words say how many places are used.
 pub(crate) const USED: usize = 96;
@@ -28,38 +27,24 @@ pub(crate) const USED: usize = 96;
 // How many words a place has.
 pub(crate) const PLACE: usize = 6;
 
-// The number as one of 64 bits.
-pub(crate) fn wide(x: u32) -> usize
-    ensures { result ≡ x }
-{
-    x as usize
-}
-
 // How many places are used.
 fn used_places(store: &[u32; Store::WORDS]) -> usize
     ensures { (result ≡ count_in store.now) × (result ≤ 16) }
 {
-    let n = wide(store[USED]);
-    if n < Store::CAPACITY {
-        n
-    } else {
-        Store::CAPACITY
-    }
+    (store[USED] as usize).min(Store::CAPACITY)
 }
 
-// Whether a picture more may be stored: number 9 compares with the capacity, over 16 taken as 16.
-pub fn room_in(store: &[u32; Store::WORDS], l: Limits) -> Room
+// That a picture more may be stored: number 9 compares with the capacity, over 16 taken as 16.
+pub fn room_in(store: &[u32; Store::WORDS], l: Limits) -> Result<(), Full>
     ensures answer { result ≡ room_of (leb (min l.capacity 16) (length (stored store.now))) }
     ensures number { number_of_room result ≡ cond
         (leb (min l.capacity 16) (length (stored store.now))) 9 0 }
 {
-    let most = l.capacity as usize;
-    let n = used_places(store);
-    if (most <= n) | (Store::CAPACITY <= n) {
-        Room::Full
-    } else {
-        Room::Enough
+    let most = (l.capacity as usize).min(Store::CAPACITY);
+    if most <= used_places(store) {
+        return Err(Full);
     }
+    Ok(())
 }
 
 // Whether a flag is on: it is unless its word is 0.
@@ -73,10 +58,11 @@ pub fn flag_of(x: u32) -> bool
 pub fn flag_word(b: bool) -> u32
     ensures { result ≡ flag_word b }
 {
-    if b { 1 } else { 0 }
+    u32::from(b)
 }
 
 // The mark of a number.
+// Kept: `From` would have to stand in `paper`, which has no function; any number is read as some mark.
 fn mark_of(x: u32) -> Mark
     ensures { result ≡ mark_of x }
 {
@@ -88,6 +74,7 @@ fn mark_of(x: u32) -> Mark
 }
 
 // The number of a mark.
+// Kept: `From` would have to stand in `paper`, which has no function.
 pub(crate) fn mark_word(m: Mark) -> u32
     ensures { result ≡ mark_word m }
 {
@@ -104,24 +91,14 @@ pub(crate) fn picture_at(store: &[u32; Store::WORDS], i: usize) -> Picture
     ensures { result ≡ picture_at store.now i }
 {
     let at = PLACE * i;
-    let poc = wire::signed(store[at + 2]);
-    let mark = mark_of(store[at + 3]);
-    let waiting = flag_of(store[at + 4]);
     Picture {
         serial: Serial(store[at]),
         surface: Surface(store[at + 1]),
-        poc,
-        mark,
-        waiting,
+        poc: wire::signed(store[at + 2]),
+        mark: mark_of(store[at + 3]),
+        waiting: flag_of(store[at + 4]),
         count: store[at + 5],
     }
-}
-
-// Proof helper: states that the array has 97 words; compiles to nothing.
-fn count_words(words: [u32; Store::WORDS]) -> usize
-    ensures { (result ≡ 97) × (length words ≡ 97) }
-{
-    Store::WORDS
 }
 
 // Puts a picture at a place.
@@ -129,15 +106,11 @@ fn put_picture(store: &mut [u32; Store::WORDS], i: usize, p: Picture)
     requires { i < 16 }
     ensures { Puts i p store.old store.new }
 {
-    count_words(*store);
     let at = PLACE * i;
-    let serial = p.serial;
-    let surface = p.surface;
-    let mark = p.mark;
-    store[at] = serial.0;
-    store[at + 1] = surface.0;
+    store[at] = p.serial.0;
+    store[at + 1] = p.surface.0;
     store[at + 2] = wire::bits(p.poc);
-    store[at + 3] = mark_word(mark);
+    store[at + 3] = mark_word(p.mark);
     store[at + 4] = flag_word(p.waiting);
     store[at + 5] = p.count;
 }
@@ -156,9 +129,7 @@ fn blank_from(store: &mut [u32; Store::WORDS], k: usize, n: usize)
     ensures kept { pictures store.new k ≡ pictures store.old k }
     ensures tidy { Tidy store.old n → Tidy store.new k }
 {
-    let mut i = n;
-    while k < i {
-        i -= 1;
+    for i in k..n {
         put_blank(store, i);
     }
 }
@@ -169,7 +140,6 @@ fn set_used(store: &mut [u32; Store::WORDS], n: usize)
     ensures pics { stored store.new ≡ pictures store.old n }
     ensures normal { Tidy store.old n → NormalForm store.new }
 {
-    count_words(*store);
     store[USED] = n as u32;
 }
 
@@ -181,19 +151,10 @@ fn load(store: &[u32; Store::WORDS], x: Change) -> Store
     let n = used_places(store);
     let b = none();
     let mut places = [b; Store::CAPACITY];
-    let mut i: usize = 0;
-    while i < n {
+    for i in 0..n {
         places[i] = read_as(picture_at(store, i), x);
-        i += 1;
     }
     Store { places, len: n }
-}
-
-// The larger of two numbers.
-fn larger(a: usize, b: usize) -> usize
-    ensures { result ≡ max a b }
-{
-    if a < b { b } else { a }
 }
 
 // The words hold the store that a call left; behind it they are blank.
@@ -204,13 +165,10 @@ fn save(store: &mut [u32; Store::WORDS], m: Moved)
 {
     let was = used_places(store);
     let n = m.len;
-    let mut i: usize = 0;
-    while i < n {
-        let p = m.places[i];
-        put_picture(store, i, p);
-        i += 1;
+    for i in 0..n {
+        put_picture(store, i, m.places[i]);
     }
-    blank_from(store, n, larger(n, was));
+    blank_from(store, n, n.max(was));
     set_used(store, n);
 }
 
@@ -227,14 +185,10 @@ pub fn forget_all(store: &mut [u32; Store::WORDS])
 pub fn holds_surface(store: &[u32; Store::WORDS], x: Surface) -> bool
     ensures { result ≡ any_b (held_by x) (stored store.now) }
 {
-    let n = used_places(store);
-    let mut i: usize = 0;
-    while i < n {
-        let p = picture_at(store, i);
-        if passes(Sought::HeldBy(x), p) {
+    for i in 0..used_places(store) {
+        if passes(Sought::HeldBy(x), picture_at(store, i)) {
             return true;
         }
-        i += 1;
     }
     false
 }
@@ -256,19 +210,18 @@ pub fn derive_and_mark_rps(
     store: &[u32; Store::WORDS],
     k: u8,
     over: bool,
-    pocs: &[i32; Store::CAPACITY],
-    hows: &[u8; Store::CAPACITY],
+    wishes: &[Wish; Store::CAPACITY],
     neg: usize,
     pos: usize,
     lt: usize,
 ) -> Derived
     ensures { Derives (2 ^ (min k 16)) (unmarked_if over (stored store.now))
-        (wishes_within pocs.now hows.now neg pos lt) result }
+        (wishes_within wishes.now neg pos lt) result }
 {
-    let n = fewer(neg, Store::CAPACITY);
-    let p = fewer(pos, Store::CAPACITY - n);
-    let q = fewer(lt, Store::CAPACITY - n - p);
-    sets::derive_and_mark_rps(load(store, unmarking(over)), k, pocs, hows, n, p, q)
+    let n = neg.min(Store::CAPACITY);
+    let p = pos.min(Store::CAPACITY - n);
+    let q = lt.min(Store::CAPACITY - n - p);
+    sets::derive_and_mark_rps(load(store, unmarking(over)), k, wishes, n, p, q)
 }
 
 // Step 5 of begin (C.5.2.2) on a store, which the words then hold.
@@ -282,9 +235,11 @@ pub fn update_dpb_before_decoding(
     ensures { Leaves (before_decoding starts no_prior l (stored_in s)) store.old store.new
         result }
 {
-    let places = s.places;
-    let n = used_in(s);
-    let m = operations::update_dpb_before_decoding(Store { places, len: n }, starts, no_prior, l);
+    let s = Store {
+        len: used_in(s),
+        ..s
+    };
+    let m = operations::update_dpb_before_decoding(s, starts, no_prior, l);
     save(store, m);
     m
 }
@@ -302,7 +257,7 @@ pub fn finish_picture(store: &mut [u32; Store::WORDS], c: Current, l: Limits) ->
 
 // Drain with a current picture: it is finished, then the store is emptied.
 pub fn finish_and_drain(store: &mut [u32; Store::WORDS], c: Current, l: Limits) -> Moved
-    ensures { Leaves (drained l (roomy (stored store.old)) (Is c)) store.old
+    ensures { Leaves (drained l (roomy (stored store.old)) (Some c)) store.old
         store.new result }
 {
     let m = operations::finish_and_drain(load(store, Change::Raise), c, l);
@@ -320,7 +275,7 @@ pub fn drain(store: &mut [u32; Store::WORDS]) -> Moved
 }
 
 // Discard: the current picture is thrown away and released first, then the store is cleared.
-pub fn discard(store: &mut [u32; Store::WORDS], x: Now) -> Moved
+pub fn discard(store: &mut [u32; Store::WORDS], x: Option<Current>) -> Moved
     ensures { Leaves (discarded (stored store.old) x) store.old store.new result }
 {
     let m = operations::discard(load(store, Change::Nothing), x);

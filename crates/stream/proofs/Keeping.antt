@@ -8,7 +8,7 @@ use borrow.Author.Tests.{le-ltb, ltb-false}
 use lib.Dec.{ltb}
 use lib.ListN.{length, take, drop, length-drop, length-take, take-append-drop, drop_of_length-le}
 use lib.Seq.{paste, take_at, drop_at, take-add, take-take, take-paste, length-take-le}
-use Rattle.stream.specs.declared.Read.{Read}
+use Rattle.stream.specs.Turns.{Read}
 use Rattle.stream.specs.Turns.{Fed, brought, shifted}
 
 -- bytes put behind the first `held` leave these

@@ -1,4 +1,3 @@
-pub mod Moving
 pub mod Keeping
 pub mod Running
 pub mod Laying

@@ -1,39 +1,27 @@
--- A loop that takes turn after turn keeps this: some turns led here, and while turns are left the run goes on.
-use Prim.Native.Nat.{ℕ, ◌-◌, ◌≤◌, ◌<◌}
-use mathlib.Core.Path.{◌≡◌, refl}
+-- A loop that takes turn after turn keeps this: some turns led here.
+use Prim.Native.Nat.{ℕ, ◌<◌}
+use mathlib.Core.Path.{◌≡◌}
 use mathlib.Core.List.{List, [], ◌∷◌, ◌++◌}
 use mathlib.Core.Bool.{Bool, true, false}
 use native.Mathlib.Omega.{arith}
 use lib.Dec.{eqb}
 use borrow.Author.Tests.{eqb-true, eqb-false}
 use Rattle.paper.proofs.Bools.{split, not_both}
-use Rattle.stream.specs.Turns.{Counted, Ran, through}
+use Rattle.stream.specs.Turns.{Ran, through}
 
 pub record Reached {S : Type 0} (Starts : S → Type 0) (Turns : S → S → Type 0) (s : S) : Type 0 where
   pub turns : List S
   pub ran : Ran Starts Turns turns s
 
-pub record Going {S : Type 0} (Starts : S → Type 0) (Turns : S → S → Type 0) (more : Bool) (left : ℕ) (s : S) : Type 0 where
-  pub on : 0 < left → more ≡ true
-  pub reached : Reached Starts Turns s
-
--- the turns that are left fall, and there are none where the run ends
-pub fewer : {left r : ℕ} {more : Bool} → Counted left more r → r ≤ left - 1
-fewer {left} {r} {more} c = split more (λ e. let k = rw e at c.rest in omega arith) (λ e. let k = rw e at c.rest in omega arith)
-
-still_on : {left r : ℕ} {more : Bool} → Counted left more r → 0 < r → more ≡ true
-still_on {left} {r} {more} c h = split more (λ e. e) (λ e. let k = rw e at c.rest in absurd (omega arith))
-
 module _ {S : Type 0} (Starts : S → Type 0) (Turns : S → S → Type 0) where
-  pub begins : {left : ℕ} (s : S) → Starts s → Going Starts Turns true left s
+  -- no turn yet, and one turn more
+  pub no_turn : (s : S) → Starts s → Reached Starts Turns s
   unfolding Ran
-  begins s g = record { on = λ _. refl; reached = record { turns = []; ran = g } }
+  no_turn s g = record { turns = []; ran = g }
 
-  -- one turn more, with a count of those that are left
-  pub one_turn : {left r : ℕ} {x more : Bool} (b s : S) → Going Starts Turns x left b → 0 < left → Counted left more r → (x ≡ true → Turns b s) → Going Starts Turns more r s
+  pub next_turn : (b s : S) → Reached Starts Turns b → Turns b s → Reached Starts Turns s
   unfolding Ran
-  one_turn b s g h e t =
-      record { on = still_on e; reached = record { turns = b ∷ g.reached.turns; ran = (g.reached.ran, t (g.on h)) } }
+  next_turn b s r t = record { turns = b ∷ r.turns; ran = (r.ran, t) }
 
 -- a whole one waits before a turn, or none does
 pub waits_or_not : {X : Type 0} (size : ℕ) → (size ≡ 0 → X) → (0 < size → X) → X

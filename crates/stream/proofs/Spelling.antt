@@ -7,14 +7,14 @@ use native.Mathlib.Numerals.{add-one}
 use native.Mathlib.Omega.{arith}
 use borrow.Author.Tests.{lt-ltb, le-ltb}
 use lib.Dec.{ltb}
-use mir.Val.{to_z}
-use mir.Syntax.{w32}
-use mir.Facts.{to_z_pos}
-use lib.ListN.{length, get_or, take, drop, set, length-append}
-use lib.Seq.{sets, take-suc, length-take-le}
+use lib.IntN.{ℤ, pos, negsuc}
+use lib.Signed.{lt_z}
+use lib.ListN.{length, take, drop, set, length-append}
+use lib.Seq.{sets, sets-eq, drop-drop}
 use Rattle.std.proofs.lemmas.List.{drop-set}
+use borrow.Rule.Slice.PartMut.{put_mid}
+use Rattle.std.specs.Prelude.{unsigned_abs}
 use Rattle.wire.proofs.Laws.{runs, sets_over}
-use Rattle.wire.proofs.Ints.{to_z_high}
 use Rattle.wire.specs.Bytes.{over}
 use Rattle.stream.specs.Text.{ascii, digits, decimal, integer, Wrote}
 
@@ -50,12 +50,15 @@ from_start {t} {d} h w =
     let x = w.fits in
     (omega (arith, p), omega (arith, x), w.bytes ∙ sets_over t d (omega (arith, p, x, h)))
 
--- one byte more of a word
-pub one_stored : {d1 : List ℕ} (d word : List ℕ) (at i : ℕ) → i < length word → d1 ≡ sets d at (take i word) → set d1 (at + i) (get_or word i 0) ≡ sets d at (take (i + 1) word)
-one_stored d word at i h e =
-    let l : length (take i word) ≡ i = length-take-le i word (omega arith) in
-    runs d (take i word) (get_or word i 0 ∷ []) at (at + i) e refl (ap (λ (k : ℕ). at + k) l)
-    ∙ ap (sets d at) (sym (ap (λ (k : ℕ). take k word) (add-one i) ∙ take-suc word i 0 h))
+-- a word that is copied to its place
+pub stored : (d : List ℕ) (at : ℕ) (word copy : List ℕ) → at + length word ≤ length d → copy ≡ word → put_mid at (at + length word - at) d copy ≡ sets d at word
+stored d at word copy h e =
+    let k : at + length word - at ≡ length word = omega arith in
+    rw (k, e)
+    (sym
+    (sets-eq word d at h
+    ∙ append_assoc (take at d) word (drop (at + length word) d)
+    ∙ ap (λ (l : List ℕ). take at d ++ (word ++ l)) (sym (drop-drop (length word) at d))))
 
 -- ---- digits
 
@@ -112,10 +115,8 @@ twenty_digits n h = few_digits 20 19 n (omega arith)
 
 -- ---- integers
 
-pub small_integer : (x : ℕ) → x < 2147483648 → integer (to_z w32 x) ≡ decimal x
+-- a sign, or nothing, and the digits of how far a number is from 0
+pub signed_text : (z : ℤ) → cond (lt_z z (pos 0)) (ascii "-") [] ++ decimal (unsigned_abs z) ≡ integer z
 unfolding integer
-small_integer x h = ap integer (to_z_pos w32 {n = x} (omega arith))
-
-pub large_integer : (x : ℕ) → 2147483648 ≤ x → integer (to_z w32 x) ≡ ascii "-" ++ decimal (4294967295 - x + 1)
-unfolding integer
-large_integer x h = ap integer (to_z_high x h)
+signed_text (pos n) = rw (le-ltb n 0 (omega arith)) refl
+signed_text (negsuc n) = rw add-one refl

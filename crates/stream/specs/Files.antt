@@ -1,5 +1,5 @@
 -- A file that is read in blocks: what a read brings, and what waits of it.
-use Rattle.std.specs.Prelude.{ℕ, ◌-◌, ◌≤◌, ◌≡◌, List, [], true, false, length, eqb, ℤ, pos, negsuc}
+use Rattle.std.specs.Prelude.{ℕ, ◌-◌, ◌≤◌, ◌≡◌, List, [], Bool, true, false, length, eqb, ℤ, pos, negsuc}
 use Rattle.stream.specs.Turns as Reading
 use Rattle.stream.specs.declared.files.Feed.{Feed}
 
@@ -8,6 +8,13 @@ use Rattle.stream.specs.declared.files.Feed.{Feed}
 abbrev pub Opened : ℤ → Type 0
 Opened (pos k) = Unit {0}
 Opened (negsuc k) = k ≡ 0
+
+-- whether the last read brought nothing, and whether it failed
+abbrev pub ended : Feed → Bool
+ended f = f.ended
+
+abbrev pub failed : Feed → Bool
+failed f = f.failed
 
 -- One read of a file, which has ended where nothing was read
 pub record Fed (f : Feed) (before : List ℕ) (r : Feed) (after : List ℕ) : Type 0 where

@@ -1,6 +1,6 @@
 // Files that are named by the program's arguments and read in blocks.
 ghost use Rattle.std.specs.Prelude.{◌≡◌, ◌≤◌, length, pos, IfOk, IfSome};
-ghost use Rattle.stream.specs.Files.{Opened, Fed, read_of, lessened, unread};
+ghost use Rattle.stream.specs.Files.{Opened, Fed, ended, failed, read_of, lessened, unread};
 
 use std::env::FillError;
 use std::fs::File;
@@ -18,9 +18,6 @@ const TOO_LONG: i32 = 36;
 
 const NO_TEXT: i32 = 84;
 
-// And where there is no room to read on.
-const NO_ROOM: i32 = 105;
-
 // A file: how many of its bytes wait at the start of its buffer, and whether it has ended or could not be read. The
 // program tells its files apart by the number, which is that of the source that they are read from.
 #[derive(Clone, Copy)]
@@ -31,32 +28,28 @@ pub struct Feed {
     pub failed: bool,
 }
 
-// A file that is open, and its place among the program's arguments.
+impl Feed {
+    // Whether the last read brought nothing, at the end of the file or because it failed.
+    pub fn ended(self) -> bool
+        ensures { result ≡ ended self }
+    {
+        self.ended
+    }
+
+    // Whether the last read failed.
+    pub fn failed(self) -> bool
+        ensures { result ≡ failed self }
+    {
+        self.failed
+    }
+}
+
+// A file that is open, its place among the program's arguments, and why the last read failed, if one did.
 #[derive(Drop)]
 pub struct Source<F> {
     fd: i32,
-    reader: Reader<F>,
-}
-
-// What it is read with, and why the last read failed, if one did.
-#[derive(Drop)]
-struct Reader<F> {
     file: F,
     why: Option<Error>,
-}
-
-impl<F: Read> Read for Reader<F> {
-    ghost remaining = { λ o. F.remaining o.file };
-
-    fn read(&mut self, buf: &mut [u8]) -> io::Result<usize> {
-        match self.file.read(buf) {
-            Ok(n) => Ok(n),
-            Err(e) => {
-                self.why = Some(e);
-                Err(e)
-            }
-        }
-    }
 }
 
 // A file of which nothing was read yet.
@@ -78,14 +71,16 @@ pub fn read_on<F: Read>(source: &mut Source<F>, f: Feed, bytes: &mut [u8]) -> Fe
     ensures fed { Fed (read_of source.old.fd f) bytes.old result bytes.new }
     ensures same { source.new.fd ≡ source.old.fd }
 {
-    let held = f.held;
-    let r = crate::read_on(&mut source.reader, held, bytes);
-    let now = r.held;
+    let read = crate::read_behind(&mut source.file, f.held, bytes);
+    if let Err(e) = read {
+        source.why = Some(e);
+    }
+    let held = read.unwrap_or(f.held);
     Feed {
         fd: source.fd,
-        held: now,
-        ended: now == held,
-        failed: r.failed,
+        held,
+        ended: held == f.held,
+        failed: read.is_err(),
     }
 }
 
@@ -93,12 +88,9 @@ pub fn read_on<F: Read>(source: &mut Source<F>, f: Feed, bytes: &mut [u8]) -> Fe
 pub fn without(f: Feed, n: usize) -> Feed
     ensures { result ≡ lessened f n }
 {
-    let held = f.held;
     Feed {
-        fd: f.fd,
-        held: if n < held { held - n } else { 0 },
-        ended: f.ended,
-        failed: f.failed,
+        held: f.held.saturating_sub(n),
+        ..f
     }
 }
 
@@ -108,20 +100,22 @@ pub fn are_given<E: Env>(rt: &E, n: usize) -> bool {
 }
 
 fn is_given<E: Env>(rt: &E, i: usize) -> bool {
-    match rt.arg(i, &mut []) {
-        Err(FillError::NotPresent) => false,
-        _ => true,
-    }
+    !matches!(rt.arg(i, &mut []), Err(FillError::NotPresent))
 }
 
 // Puts an argument at the start of the buffer: how many bytes it has, or 0 where it is missing or does not fit.
 pub fn name<E: Env>(rt: &E, i: usize, buf: &mut [u8]) -> usize
     ensures { result ≤ length buf.new }
 {
-    match rt.arg(i, buf) {
-        Ok(n) => n,
-        Err(_) => 0,
-    }
+    rt.arg(i, buf).unwrap_or(0)
+}
+
+// An argument, put at the start of the buffer, where it is there and fits.
+pub fn argument<'a, E: Env>(rt: &E, i: usize, buf: &'a mut [u8]) -> Option<&'a [u8]>
+    ensures { IfSome result (λ word. length word.now ≤ length buf.old) }
+{
+    let n = rt.arg(i, buf).ok()?;
+    Some(&buf[..n])
 }
 
 // Opens the file that an argument names, or says why it can't.
@@ -169,7 +163,8 @@ fn open_path<R: Files + Alloc, W: Write>(
     match open_text(rt, path) {
         Ok(file) => Ok(Some(Source {
             fd,
-            reader: Reader { file, why: None },
+            file,
+            why: None,
         })),
         Err(e) => {
             say(rt, err, path, program, &e)?;
@@ -180,10 +175,8 @@ fn open_path<R: Files + Alloc, W: Write>(
 
 // A name that is no UTF-8 names no file here.
 fn open_text<R: Files>(rt: &R, path: &[u8]) -> io::Result<R::File> {
-    match str::from_utf8(path) {
-        Ok(text) => File::open(rt, text),
-        Err(_) => Err(Error::from_raw_os_error(NO_TEXT)),
-    }
+    let text = str::from_utf8(path).map_err(|_| Error::from_raw_os_error(NO_TEXT))?;
+    File::open(rt, text)
 }
 
 // Says that a file can't be read: the program's name, the file's, and the system's words for the read that failed last.
@@ -194,10 +187,9 @@ pub fn unreadable<R: Alloc, W: Write, F>(
     path: &[u8],
     program: &[u8],
 ) -> io::Result<()> {
-    let why = match file.reader.why {
-        Some(e) => e,
-        None => Error::from_raw_os_error(NO_ROOM),
-    };
+    let why = file
+        .why
+        .unwrap_or_else(|| Error::from_raw_os_error(crate::NO_ROOM));
     say(rt, err, path, program, &why)
 }
 
@@ -220,8 +212,6 @@ fn say<R: Alloc, W: Write>(
 
 // The system's words for an error, without the number that std puts behind them.
 fn system_words(text: &str) -> &str {
-    match text.split_once(" (os error ") {
-        Some((words, _)) => words,
-        None => text,
-    }
+    text.split_once(" (os error ")
+        .map_or(text, |(words, _)| words)
 }

@@ -6,54 +6,38 @@ pub mod files;
 pub mod text;
 
 ghost use Rattle.std.specs.Prelude.{◌≡◌, min, length};
-ghost use Rattle.stream.specs.Turns.{Fed, shifted, Counted};
+ghost use Rattle.stream.specs.Turns.{Fed, read_as, shifted};
 
-use std::io::{Read as Source, Write};
+use std::io;
+use std::io::{Error, Read as Source, Write};
 
-// How many bytes wait now, and whether the read failed.
-#[derive(Clone, Copy)]
-pub struct Read {
-    pub held: usize,
-    pub failed: bool,
-}
+// What the system answers where there is no room to read on.
+const NO_ROOM: i32 = 105;
 
-// One read behind the `held` bytes that wait. None is read at the end of the input, where it can't be read, or where
-// there is no room behind them, which counts as failed.
-pub fn read_on<R: Source>(source: &mut R, held: usize, bytes: &mut [u8]) -> Read
-    ensures { Fed held bytes.old result bytes.new }
+// One read behind the `held` bytes that wait: how many wait now. None is read at the end of the input. It fails where
+// the input can't be read, and where there is no room behind the bytes that wait.
+pub fn read_behind<R: Source>(source: &mut R, held: usize, bytes: &mut [u8]) -> io::Result<usize>
+    ensures { Fed held bytes.old (read_as held result) bytes.new }
 {
     if bytes.len() <= held {
-        return Read { held, failed: true };
+        return Err(Error::from_raw_os_error(NO_ROOM));
     }
-    match source.read(&mut bytes[held..]) {
-        Ok(n) => Read {
-            held: held + n,
-            failed: false,
-        },
-        Err(_) => Read { held, failed: true },
-    }
-}
-
-// The lesser of two places.
-pub fn lesser(a: usize, b: usize) -> usize
-    ensures { result ≡ min a b }
-{
-    if a < b { a } else { b }
+    let n = source.read(&mut bytes[held..])?;
+    Ok(held + n)
 }
 
 // Moves the bytes from `from` to `end`, or to the last where `end` is past it, to the start.
 pub fn shift(bytes: &mut [u8], from: usize, end: usize)
     ensures { bytes.new ≡ shifted bytes.old from end }
 {
-    let last = lesser(end, bytes.len());
-    let mut i = from;
-    while i < last {
-        bytes[i - from] = bytes[i];
-        i += 1;
+    let last = end.min(bytes.len());
+    if from < last {
+        bytes.copy_within(from..last, 0);
     }
 }
 
 // How many bytes were handed over to the writer, and whether they could be written.
+// Kept: the count is promised where the writer failed too, and an Err would not carry it.
 #[derive(Clone, Copy)]
 pub struct Handed {
     pub bytes: usize,
@@ -64,18 +48,7 @@ pub struct Handed {
 pub fn write_front<W: Write>(sink: &mut W, bytes: &[u8], n: usize) -> Handed
     ensures { result.bytes ≡ min n (length bytes.now) }
 {
-    let last = lesser(n, bytes.len());
+    let last = n.min(bytes.len());
     let wrote = sink.write_all(&bytes[..last]).is_ok();
     Handed { bytes: last, wrote }
-}
-
-// Nothing says that an input ends, so the turns of a run are counted: those that are left behind one more, and none
-// where the run ends.
-pub fn turns_left(left: u64, more: bool) -> u64
-    ensures { Counted left more result }
-{
-    if !more {
-        return 0;
-    }
-    if left > 0 { left - 1 } else { 0 }
 }

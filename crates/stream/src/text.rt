@@ -5,16 +5,14 @@ ghost use Rattle.std.specs.Int.{w32};
 ghost use Rattle.stream.specs.Text.{decimal, integer, Wrote};
 
 // These bytes.
+#[tactic(auto, using(crate::proofs::Spelling::stored))]
 pub fn put(d: &mut [u8], at: usize, word: &[u8]) -> usize
     requires { at + length word.now ≤ length d.old }
     ensures { Wrote d.old at word.now (length word.now) result d.new }
 {
-    let mut i = 0;
-    while i < word.len() {
-        d[at + i] = word[i];
-        i += 1;
-    }
-    at + i
+    let end = at + word.len();
+    d[at..end].copy_from_slice(word);
+    end
 }
 
 // A word, or nothing.
@@ -54,6 +52,7 @@ fn put_decimal(d: &mut [u8], at: usize, n: u64) -> usize
 }
 
 // Any number: it has at most twenty digits.
+#[tactic(auto, using(crate::proofs::Spelling::twenty_digits, crate::proofs::Spelling::roomier))]
 pub fn put_u64(d: &mut [u8], at: usize, n: u64) -> usize
     requires { at + 20 ≤ length d.old }
     ensures { Wrote d.old at (decimal n) 20 result d.new }
@@ -62,11 +61,12 @@ pub fn put_u64(d: &mut [u8], at: usize, n: u64) -> usize
 }
 
 // A number of 32 bits: it has at most ten digits.
+#[tactic(auto, using(crate::proofs::Spelling::ten_digits, crate::proofs::Spelling::roomier))]
 pub fn put_u32(d: &mut [u8], at: usize, n: u32) -> usize
     requires { at + 10 ≤ length d.old }
     ensures { Wrote d.old at (decimal n) 10 result d.new }
 {
-    put_decimal(d, at, n as u64)
+    put_decimal(d, at, u64::from(n))
 }
 
 // The number whose two's complement these 32 bits are.
@@ -74,9 +74,7 @@ pub fn put_signed(d: &mut [u8], at: usize, x: u32) -> usize
     requires { at + 11 ≤ length d.old }
     ensures { Wrote d.old at (integer (to_z w32 x)) 11 result d.new }
 {
-    if x < 0x8000_0000 {
-        return put_u32(d, at, x);
-    }
-    let a = put(d, at, b"-");
-    put_u32(d, a, u32::MAX - x + 1)
+    let n = x.cast_signed();
+    let a = put_if(d, at, n < 0, b"-");
+    put_u32(d, a, n.unsigned_abs())
 }

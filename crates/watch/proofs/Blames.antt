@@ -23,7 +23,10 @@ use Rattle.paper.specs.declared.Blamed.TheVariants.{Nothing, Picture, Both}
 use Rattle.format.proofs.Tails.{words_more, thrown_is, tail_there}
 use Rattle.watch.specs.declared.Book.{Book}
 use Rattle.watch.specs.declared.line.Ask.TheVariants.{Any}
-use Rattle.watch.specs.declared.events.Told.{Told}
+use Rattle.std.specs.Prelude.{Result, Ok, Err}
+use Rattle.watch.specs.declared.Lines.{Lines}
+use Rattle.watch.specs.declared.demand.Broken.{Broken}
+use Rattle.watch.proofs.Numbers.{positive}
 use Rattle.watch.specs.Book.{view, current_in, book_in, HoldsBook}
 use Rattle.watch.specs.Walks.{asking}
 use Rattle.watch.specs.Events.{Tells}
@@ -68,43 +71,46 @@ module _ (p : ℕ) (b : Book) (r a : List ℕ) where
     unfolding reply_blame
     begins_5 q = rw (q, w)
 
-  module _ (n : ℕ) (m : n ≡ members_of a) (t : Told) (g : Tells (events (read_tail b.reading (drop (members_place + word_width * n) a))) (view b.held) t) where
+  module _ (n : ℕ) (m : n ≡ members_of a) where
     abbrev moves : List Event
     moves = events (read_tail b.reading (drop (4 * set_words (drop rest_place a)) (drop begun_members (drop rest_place a))))
 
-    there : Tells moves (view b.held) t
-    there = rw (tail_there a, ← m) g
+    abbrev moved : List Event
+    moved = events (read_tail b.reading (drop (members_place + word_width * n) a))
+
+    there : {t : Result Lines Broken} → Tells moved (view b.held) t → Tells moves (view b.held) t
+    there g = rw (tail_there a, ← m) g
 
     module _ (x : p ≡ 3 → ⊥) (y : p ≡ 4 → ⊥) (z : p ≡ 5 → ⊥) where
-      pub begins_tail : (t.part ≡ 0 → ⊥) → Is t.blamed
+      pub begins_tail : (t : Broken) → Tells moved (view b.held) (Err t) → Is t.blamed
       unfolding reply_blame
-      begins_tail k =
-          let v : tail_part moves (view b.held) ≡ 0 → ⊥ = λ q. k (there.part ∙ q) in
-          rw (ne_eqb p 3 x, ne_eqb p 4 y, ne_eqb p 5 z, ne_eqb (tail_part moves (view b.held)) 0 v) there.blamed
+      begins_tail t g =
+          let v : tail_part moves (view b.held) ≡ 0 → ⊥ = λ q. positive t.part ((there g).part ∙ q) in
+          rw (ne_eqb p 3 x, ne_eqb p 4 y, ne_eqb p 5 z, ne_eqb (tail_part moves (view b.held)) 0 v) (there g).blamed
 
-      pub begins_12 : t.part ≡ 0 → (p ≡ 19 → ⊥) → Is (first_serial (strangers (read_serials n (drop members_place a)) (view t.lines)))
+      pub begins_12 : (t : Lines) → Tells moved (view b.held) (Ok t) → (p ≡ 19 → ⊥) → Is (first_serial (strangers (read_serials n (drop members_place a)) (view t)))
       unfolding reply_blame
-      begins_12 k u =
-          let v : tail_part moves (view b.held) ≡ 0 = sym there.part ∙ k in
+      begins_12 t g u =
+          let v : tail_part moves (view b.held) ≡ 0 = sym (there g).part in
           let w : in_order (read_begun (drop rest_place a)).sets ≡ read_serials n (drop members_place a) = members_read a ∙ ap (λ (k : ℕ). read_serials k (drop members_place a)) (sym m) in
-          rw (ne_eqb p 3 x, ne_eqb p 4 y, ne_eqb p 5 z, v, ne_eqb p 19 u) (ap₂ (λ (ns : List Serial) (H : List Line). first_serial (strangers ns H)) (sym w) (is_view (there.lines v)))
+          rw (ne_eqb p 3 x, ne_eqb p 4 y, ne_eqb p 5 z, v, ne_eqb p 19 u) (ap₂ (λ (ns : List Serial) (H : List Line). first_serial (strangers ns H)) (sym w) (is_view (there g).lines))
 
-    pub begins_19 : t.part ≡ 0 → p ≡ 19 → Is (first_serial (read_tail b.reading (drop (members_place + word_width * n) a)).thrown)
+    pub begins_19 : (t : Lines) → Tells moved (view b.held) (Ok t) → p ≡ 19 → Is (first_serial (read_tail b.reading (drop (members_place + word_width * n) a)).thrown)
     unfolding reply_blame
-    begins_19 k u =
-        let v : tail_part moves (view b.held) ≡ 0 = sym there.part ∙ k in
+    begins_19 t g u =
+        let v : tail_part moves (view b.held) ≡ 0 = sym (there g).part in
         rw (u, v, tail_there a, ← m)
 
 -- ---- any other call
 
-module _ (x : Tail) (H : List Line) (t : Told) (g : Tells (events x) H t) where
-  pub moved_tail : (t.part ≡ 0 → ⊥) → t.blamed ≡ moved_blame x H
-  moved_tail n = rw (ne_eqb (tail_part (events x) H) 0 (λ q. n (g.part ∙ q))) g.blamed
+module _ (x : Tail) (H : List Line) where
+  pub moved_tail : (y : Broken) → Tells (events x) H (Err y) → y.blamed ≡ moved_blame x H
+  moved_tail y g = rw (ne_eqb (tail_part (events x) H) 0 (λ q. positive y.part (g.part ∙ q))) g.blamed
 
-  pub moved_left : t.part ≡ 0 → first_line Nothing (keep (asking Any) (view t.lines)) ≡ moved_blame x H
-  moved_left z =
-      let v : tail_part (events x) H ≡ 0 = sym g.part ∙ z in
-      rw v (ap (first_line Nothing) (keep_all (view t.lines) ∙ is_view (g.lines v)))
+  pub moved_left : (t : Lines) → Tells (events x) H (Ok t) → first_line Nothing (keep (asking Any) (view t)) ≡ moved_blame x H
+  moved_left t g =
+      let v : tail_part (events x) H ≡ 0 = sym g.part in
+      rw v (ap (first_line Nothing) (keep_all (view t) ∙ is_view g.lines))
 
 module _ (p kind : ℕ) (L : Ledger) (t : Tail) where
   pub done_13 : p ≡ 13 → Nothing ≡ done_blame p kind L t

@@ -18,6 +18,7 @@ use Rattle.paper.proofs.Bools.{split}
 use Rattle.watch.specs.declared.Tally.{Tally}
 use Rattle.watch.specs.declared.Book.{Book}
 use Rattle.watch.specs.declared.exchanges.Paired.{Paired}
+use Rattle.watch.specs.Parts.{part_at}
 use Rattle.watch.specs.Book.{Holds, book_in, HoldsBook}
 use Rattle.watch.specs.Pairs.{tally_all, Watches}
 use Rattle.watch.proofs.ExchangeLaws.{in_order, part_order, held_order, current_order, begun_order, is_ledger, same_book, watched_more}
@@ -81,7 +82,7 @@ module _ {b : Book} {t : Tally} {records replies : List ℕ} {q : Paired} (st : 
       (subst (λ (x : Reading). Alike 0 v.at (watched x 0 (book_in b) h.said h.answers) (watched (further_all st answers) v.at v.ledger h.said h.answers)) (sym l.reading)
       (alike (further_all st answers) 0 v.at (book_in b) v.ledger (same_book (is_ledger l)) h.said h.answers))
 
-  pub next_block : q.part ≡ both_said.part
+  pub next_block : part_at q.broken ≡ both_said.part
   next_block = h.part ∙ joins.part
 
   pub next_place : (watched st 0 L said answers).at + q.pairs ≡ both_said.at

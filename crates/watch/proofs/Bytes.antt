@@ -14,8 +14,8 @@ use Rattle.paper.specs.WholeReply.{thrown_at, released_at}
 use Rattle.paper.specs.Ledger.{read_words, read_shown, read_released, read_tail, events, none}
 use Rattle.paper.specs.declared.Reading.{Reading}
 use Rattle.format.proofs.Tails.{u8_drop, u32_drop, u32_at, words_more, thrown_is}
-use Rattle.watch.specs.declared.events.Part.{Part}
-use Rattle.watch.specs.declared.events.Part.TheVariants.{Handed, Thrown, Released}
+use Rattle.watch.specs.declared.events.Section.{Section}
+use Rattle.watch.specs.declared.events.Section.TheVariants.{Handed, Thrown, Released}
 use Rattle.watch.specs.Events.{shown_at, event_at, size_of, events_of, counted}
 
 -- ---- the words and events from a place on
@@ -24,13 +24,13 @@ shown_more : (st : Reading) (m k : ℕ) (r : List ℕ) → read_shown st (suc m)
 unfolding read_shown
 shown_more st m k r = rw (u32_at k r, u32_drop k 4 r, u32_drop k 8 r, drop-drop 12 k r)
 
-pub events_more : (st : Reading) (p : Part) (m k : ℕ) (r : List ℕ) → events_of st p (suc m) (drop k r) ≡ event_at st p r k ∷ events_of st p m (drop (k + size_of st p) r)
+pub events_more : (st : Reading) (p : Section) (m k : ℕ) (r : List ℕ) → events_of st p (suc m) (drop k r) ≡ event_at st p r k ∷ events_of st p m (drop (k + size_of st p) r)
 unfolding events_of event_at size_of
 events_more st Handed m k r = rw (shown_more st m k r)
 events_more st Thrown m k r = rw (words_more m k r)
 events_more st Released m k r = rw (words_more m k r)
 
-pub events_none : (st : Reading) (p : Part) (bs : List ℕ) → events_of st p 0 bs ≡ []
+pub events_none : (st : Reading) (p : Section) (bs : List ℕ) → events_of st p 0 bs ≡ []
 unfolding events_of read_shown read_words
 events_none st Handed bs = refl
 events_none st Thrown bs = refl
@@ -92,7 +92,7 @@ unfolding read_shown none
 none_shown st zero bs = refl
 none_shown st (suc n) bs = sym (not_none n)
 
-none_events : (st : Reading) (p : Part) (n : ℕ) (bs : List ℕ) → none (events_of st p n bs) ≡ eqb n 0
+none_events : (st : Reading) (p : Section) (n : ℕ) (bs : List ℕ) → none (events_of st p n bs) ≡ eqb n 0
 unfolding events_of read_shown read_words none
 none_events st Handed zero bs = refl
 none_events st Handed (suc n) bs = sym (not_none n)
@@ -101,7 +101,7 @@ none_events st Thrown (suc n) bs = sym (not_none n)
 none_events st Released zero bs = refl
 none_events st Released (suc n) bs = sym (not_none n)
 
-none_counted : (st : Reading) (p : Part) (k : ℕ) (r : List ℕ) → none (counted st p (drop k r)) ≡ eqb (u8 r k) 0
+none_counted : (st : Reading) (p : Section) (k : ℕ) (r : List ℕ) → none (counted st p (drop k r)) ≡ eqb (u8 r k) 0
 unfolding counted
 none_counted st p k r = none_events st p (u8 (drop k r) 0) (drop 1 (drop k r)) ∙ ap (λ (n : ℕ). eqb n 0) (u8_drop k r)
 
@@ -110,7 +110,7 @@ unfolding none
 none_append [] ys = refl
 none_append (x ∷ xs) ys = refl
 
-pub counted_is : (st : Reading) (p : Part) (k : ℕ) (r : List ℕ) → counted st p (drop k r) ≡ events_of st p (u8 r k) (drop (k + 1) r)
+pub counted_is : (st : Reading) (p : Section) (k : ℕ) (r : List ℕ) → counted st p (drop k r) ≡ events_of st p (u8 r k) (drop (k + 1) r)
 unfolding counted
 counted_is st p k r = rw (u8_drop k r, drop-drop 1 k r)
 

@@ -22,7 +22,10 @@ use Rattle.paper.proofs.Bools.{split}
 use Rattle.paper.proofs.Again.{further_more}
 use Rattle.watch.specs.declared.Tally.{Tally}
 use Rattle.watch.specs.declared.Book.{Book}
-use Rattle.watch.specs.declared.Heard.{Heard}
+use Rattle.std.specs.Prelude.{Result, Ok, Err, None, Some}
+use Rattle.watch.specs.declared.demand.Part.{Part}
+use Rattle.watch.specs.Parts.{number_of, part_in}
+use Rattle.watch.proofs.Numbers.{positive}
 use Rattle.watch.specs.Book.{Holds, book_in, HoldsBook, tallied}
 use Rattle.watch.specs.Hears.{Hears}
 use Rattle.format.specs.Cut.{size_of, is_whole, joined}
@@ -150,7 +153,7 @@ watched_even st n L (r ∷ rs) (a ∷ answers) z =
     rw e (ap suc k.0, omega (arith, k.1)))
     (λ e. absurd (eqb-false (part_of st L r a) 0 e (rw e at z)))
 
-pub nothing_heard : (b : Book) (records replies : List ℕ) → Watches b records replies (paired_of b 0 0 0 0 Nothing)
+pub nothing_heard : (b : Book) (records replies : List ℕ) → Watches b records replies (paired_of b 0 0 0 None)
 unfolding joined watched all_b tally_all further_all
 nothing_heard b records replies =
     record {
@@ -174,7 +177,7 @@ nothing_heard b records replies =
     }
 
 module _ {b k : Book} {records replies : List ℕ} (taken answered pairs n m : ℕ) (h : 0 < n) (e : n ≡ size_of (drop taken records)) (i : 0 < m) (f : m ≡ size_of (drop answered replies))
-    (g : Watches b records replies (paired_of k taken answered pairs 0 Nothing)) (x : Heard)
+    (g : Watches b records replies (paired_of k taken answered pairs None)) (x : Result Book Part)
     (d : Hears k (take (taken + n - taken) (drop taken records)) (take (answered + m - answered) (drop answered replies)) x) where
   rec : List ℕ
   rec = take n (drop taken records)
@@ -206,7 +209,7 @@ module _ {b k : Book} {records replies : List ℕ} (taken answered pairs n m : �
   reads : k.reading ≡ carried
   reads = g.reading ∙ ap (further_all b.reading) (take_all pairs g.answers (let e = all in omega arith))
 
-  its_part : x.part ≡ part_of carried before.ledger rec ans
+  its_part : part_in x ≡ part_of carried before.ledger rec ans
   unfolding before
   its_part = now_hears.part ∙ same_part g.ledger k.reading rec ans ∙ ap (λ (st : Reading). part_of st before.ledger rec ans) reads
 
@@ -242,16 +245,18 @@ module _ {b k : Book} {records replies : List ℕ} (taken answered pairs n m : �
   its_reply : get_or (g.answers ++ (ans ∷ [])) pairs [] ≡ ans
   its_reply = get_or_at g.answers ans [] [] pairs (sym all)
 
-  pub heard_wrong : (x.part ≡ 0 → ⊥) → (o : Blamed) → o ≡ blamed k.reading (book_in k) (take (taken + n - taken) (drop taken records)) (take (answered + m - answered) (drop answered replies))
-      → Watches b records replies (paired_of k (taken + n) (answered + m) pairs x.part o)
+  pub heard_wrong : (q : Part) → x ≡ Err q → (o : Blamed) → o ≡ blamed k.reading (book_in k) (take (taken + n - taken) (drop taken records)) (take (answered + m - answered) (drop answered replies))
+      → Watches b records replies (paired_of k (taken + n) (answered + m) pairs (Some (record { part = q; blamed = o })))
   unfolding before rec ans
-  heard_wrong z o u =
-      let w : part_of carried before.ledger rec ans ≡ 0 → ⊥ = λ y. z (its_part ∙ y) in
+  heard_wrong q f o u =
+      let its : number_of q ≡ part_of carried before.ledger rec ans = sym (ap part_in f) ∙ its_part in
+      let z = positive q in
+      let w : part_of carried before.ledger rec ans ≡ 0 → ⊥ = λ y. z (its ∙ y) in
       let v = goes_on ∙ one_wrong carried before.at before.ledger rec ans w in
       let l = sym (ap (λ (y : Verdict). y.ledger) v) in
-      let q = sym (take-append-le pairs g.answers (ans ∷ []) (let y = all in omega arith)) in
-      let t = ap (tally_all b.reading b.tally) q in
-      let s = ap (further_all b.reading) q in
+      let e-q = sym (take-append-le pairs g.answers (ans ∷ []) (let y = all in omega arith)) in
+      let t = ap (tally_all b.reading b.tally) e-q in
+      let s = ap (further_all b.reading) e-q in
       let i-n : taken + n - taken ≡ n = omega arith in
       let i-m : answered + m - answered ≡ m = omega arith in
       record {
@@ -262,7 +267,7 @@ module _ {b k : Book} {records replies : List ℕ} (taken answered pairs n m : �
         even = evenly;
         cut_said = said_cut;
         cut_answers = answers_cut;
-        part = its_part ∙ sym (ap (λ (y : Verdict). y.part) v);
+        part = its ∙ sym (ap (λ (y : Verdict). y.part) v);
         pairs = g.pairs ∙ sym (ap (λ (y : Verdict). y.at) v);
         ledger = subst (IsLedger k) l g.ledger;
         tally = g.tally ∙ t;
@@ -274,10 +279,11 @@ module _ {b k : Book} {records replies : List ℕ} (taken answered pairs n m : �
         unblamed = λ y. absurd (z y);
       }
 
-  pub heard_right : x.part ≡ 0 → Watches b records replies (paired_of x.book (taken + n) (answered + m) (pairs + 1) 0 Nothing)
+  pub heard_right : (o : Book) → x ≡ Ok o → Watches b records replies (paired_of o (taken + n) (answered + m) (pairs + 1) None)
   unfolding before
-  heard_right z =
-      let w : part_of carried before.ledger rec ans ≡ 0 = sym its_part ∙ z in
+  heard_right o f =
+      let c : Hears k rec ans (Ok o) = subst (λ (y : Result Book Part). Hears k rec ans y) f now_hears in
+      let w : part_of carried before.ledger rec ans ≡ 0 = sym its_part ∙ ap part_in f in
       let v = goes_on ∙ one_right carried before.at before.ledger rec ans w in
       let q = sym (take_all (pairs + 1) (g.answers ++ (ans ∷ [])) (let u = one_longer in omega arith)) in
       let t : tallied k.tally (read_reply k.reading ans) ≡ tally_all b.reading b.tally (take (pairs + 1) (g.answers ++ (ans ∷ []))) =
@@ -289,7 +295,7 @@ module _ {b k : Book} {records replies : List ℕ} (taken answered pairs n m : �
       ∙ sym (further_more b.reading g.answers ans)
       ∙ ap (further_all b.reading) q in
       let l = ap (λ (st : Reading). hear before.ledger rec (read_reply st ans)) reads ∙ sym (ap (λ (u : Verdict). u.ledger) v) in
-      let y = also s l t (next_normal g.ledger rec (read_reply k.reading ans) (now_hears.kept (sym now_hears.part ∙ z))) in
+      let y = also s l t (next_normal g.ledger rec (read_reply k.reading ans) (c.kept (sym c.part))) in
       record {
         said = g.said ++ (rec ∷ []);
         answers = g.answers ++ (ans ∷ []);

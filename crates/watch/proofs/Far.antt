@@ -21,6 +21,8 @@ use Rattle.format.specs.Cut.{Parts, size_of, joined, is_whole, cut}
 use Rattle.format.proofs.Cutting.{front_cut, parts_none}
 use Rattle.watch.specs.declared.Book.{Book}
 use Rattle.watch.specs.declared.exchanges.Paired.{Paired}
+use Rattle.watch.specs.Parts.{part_at, blamed_at}
+use Rattle.watch.proofs.Numbers.{one_broken}
 use Rattle.watch.specs.Book.{book_in, HoldsBook}
 use Rattle.watch.specs.Pairs.{tally_all, Watches, WatchesAll}
 use Rattle.watch.proofs.Determined.{also, one_book}
@@ -95,9 +97,9 @@ module _ {b : Book} {records replies : List ℕ} {p : Paired} (g : WatchesAll b 
       let x = drop p.taken records in
       let y = drop p.answered replies in
       let c = ap₂ (as_far b.reading (book_in b)) (cut_behind records p.taken heard.said heard.whole_said heard.cut_said) (cut_behind replies p.answered heard.answers heard.whole_answers heard.cut_answers) in
-      split (eqb p.part 0)
-      (λ e. sym (c ∙ far_last b.reading (book_in b) heard.said heard.answers heard.even (cut x) (cut y) (no_more x y (g.rest (eqb-true p.part 0 e)))))
-      (λ e. sym (c ∙ far_broken b.reading (book_in b) heard.said heard.answers heard.even (cut x) (cut y) (λ z. eqb-false p.part 0 e (heard.part ∙ z))))
+      split (eqb (part_at p.broken) 0)
+      (λ e. sym (c ∙ far_last b.reading (book_in b) heard.said heard.answers heard.even (cut x) (cut y) (no_more x y (g.rest (eqb-true (part_at p.broken) 0 e)))))
+      (λ e. sym (c ∙ far_broken b.reading (book_in b) heard.said heard.answers heard.even (cut x) (cut y) (λ z. eqb-false (part_at p.broken) 0 e (heard.part ∙ z))))
 
   -- where some go into the book, it is in normal form
   heard_normal : 0 < p.pairs → HoldsBook p.book (further_all b.reading (take p.pairs (cut replies))) found.ledger (tally_all b.reading b.tally (take p.pairs (cut replies)))
@@ -107,23 +109,23 @@ module _ {b : Book} {records replies : List ℕ} {p : Paired} (g : WatchesAll b 
       let q = sym (take-append-le p.pairs heard.answers y (omega (arith, heard.pairs))) ∙ ap (take p.pairs) (sym (cut_behind replies p.answered heard.answers heard.whole_answers heard.cut_answers)) in
       also (ap (further_all b.reading) q) (ap (λ (w : Verdict). w.ledger) heard_far) (ap (tally_all b.reading b.tally) q) (heard.normal h)
 
-  heard_many : length heard.said ≡ many p.pairs p.part
+  heard_many : length heard.said ≡ many p.pairs (part_at p.broken)
   heard_many =
-      split (eqb p.part 0)
+      split (eqb (part_at p.broken) 0)
       (λ e.
-      let k = watched_even b.reading 0 (book_in b) heard.said heard.answers (sym heard.part ∙ eqb-true p.part 0 e) in
+      let k = watched_even b.reading 0 (book_in b) heard.said heard.answers (sym heard.part ∙ eqb-true (part_at p.broken) 0 e) in
       rw e (omega (arith, k.0, k.1, heard.pairs)))
-      (λ e. rw e (heard.last (eqb-false p.part 0 e)))
+      (λ e. rw e (heard.last (eqb-false (part_at p.broken) 0 e)))
 
-  heard_taken : p.taken ≡ length (joined (take (many p.pairs p.part) (cut records)))
+  heard_taken : p.taken ≡ length (joined (take (many p.pairs (part_at p.broken)) (cut records)))
   heard_taken = taken_is p.taken records heard.said g.taken heard.whole_said heard.cut_said ∙ ap (λ (n : ℕ). length (joined (take n (cut records)))) heard_many
 
-  heard_answered : p.answered ≡ length (joined (take (many p.pairs p.part) (cut replies)))
+  heard_answered : p.answered ≡ length (joined (take (many p.pairs (part_at p.broken)) (cut replies)))
   heard_answered =
       taken_is p.answered replies heard.answers g.answered heard.whole_answers heard.cut_answers ∙ ap (λ (n : ℕ). length (joined (take n (cut replies)))) (sym heard.even ∙ heard_many)
 
   -- what is named is told from the book and the exchange behind those that go into it
-  heard_blamed : (p.part ≡ 0 → ⊥) → p.blamed ≡ blamed p.book.reading (book_in p.book) (get_or (cut records) p.pairs []) (get_or (cut replies) p.pairs [])
+  heard_blamed : (part_at p.broken ≡ 0 → ⊥) → blamed_at p.broken ≡ blamed p.book.reading (book_in p.book) (get_or (cut records) p.pairs []) (get_or (cut replies) p.pairs [])
   heard_blamed w =
       let n = heard.last w in
       let x = cut (drop p.taken records) in
@@ -152,8 +154,9 @@ one_hearing {b} {records} {replies} {p} {q} g h =
     let z = eqb-false p.pairs 0 y in
     one_book (subst (λ (m : ℕ). HoldsBook p.book (further_all b.reading (take m (cut replies))) (as_far b.reading (book_in b) (cut records) (cut replies)).ledger (tally_all b.reading b.tally (take m (cut replies)))) n (heard_normal g (omega arith))) (heard_normal h (omega arith))) in
     let f : Book → ℕ → Blamed = λ (c : Book) (m : ℕ). blamed c.reading (book_in c) (get_or (cut records) m []) (get_or (cut replies) m []) in
-    let x : p.blamed ≡ q.blamed =
-    split (eqb p.part 0)
-    (λ y. let z = eqb-true p.part 0 y in g.watches.unblamed z ∙ sym (h.watches.unblamed (sym e ∙ z)))
-    (λ y. let z = eqb-false p.part 0 y in heard_blamed g z ∙ ap₂ f k n ∙ sym (heard_blamed h (λ w. z (e ∙ w)))) in
-    λ i. record { book = k i; taken = t i; answered = a i; pairs = n i; part = e i; blamed = x i }
+    let x : blamed_at p.broken ≡ blamed_at q.broken =
+    split (eqb (part_at p.broken) 0)
+    (λ y. let z = eqb-true (part_at p.broken) 0 y in g.watches.unblamed z ∙ sym (h.watches.unblamed (sym e ∙ z)))
+    (λ y. let z = eqb-false (part_at p.broken) 0 y in heard_blamed g z ∙ ap₂ f k n ∙ sym (heard_blamed h (λ w. z (e ∙ w)))) in
+    let o = one_broken p.broken q.broken e x in
+    λ i. record { book = k i; taken = t i; answered = a i; pairs = n i; broken = o i }

@@ -1,7 +1,9 @@
+pub mod Numbers
 pub mod Walks
 pub mod Bytes
 pub mod PartLaws
 pub mod ReplyLaws
+pub mod ReplyKinds
 pub mod Ways
 pub mod Hearing
 pub mod Blames

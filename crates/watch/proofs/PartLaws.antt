@@ -24,8 +24,11 @@ use Rattle.watch.specs.Book.{Holds, view}
 use Rattle.watch.specs.Walks.{waits_at}
 use Rattle.watch.specs.Events.{Tells, event_at, size_of, events_of}
 use Rattle.watch.specs.declared.Lines.{Lines}
-use Rattle.watch.specs.declared.events.Part.{Part}
-use Rattle.watch.specs.declared.events.Told.{Told}
+use Rattle.watch.specs.declared.events.Section.{Section}
+use Rattle.std.specs.Prelude.{Result, Ok, Err}
+use Rattle.watch.specs.declared.demand.Broken.{Broken}
+use Rattle.watch.specs.Parts.{number_of}
+use Rattle.watch.proofs.Numbers.{positive}
 use Rattle.watch.proofs.Bytes.{events_more, events_none}
 
 pub flip : (b : Bool) → not b ≡ true → b ≡ false
@@ -150,28 +153,27 @@ upon_append (e ∷ es) fs H = upon_append es fs (upon e H)
 
 -- ---- what is told of some events, and of more behind them
 
-pub stops : {es : List Event} {H : List Line} {t : Told} → t.part ≡ tail_part es H → t.blamed ≡ tail_blame es H → (t.part ≡ 0 → ⊥) → Tells es H t
-stops e b n = record { part = e; lines = λ z. absurd (n (e ∙ z)); blamed = b }
+pub stops : {es : List Event} {H : List Line} {y : Broken} → number_of y.part ≡ tail_part es H → y.blamed ≡ tail_blame es H → Tells es H (Err y)
+stops e b = record { part = e; lines = tt; blamed = b }
 
-pub tells_first : {es : List Event} (fs : List Event) {H : List Line} {t : Told} → Tells es H t → (t.part ≡ 0 → ⊥) → Tells (es ++ fs) H t
-tells_first {es} fs {H} h n =
-    let m : tail_part es H ≡ 0 → ⊥ = λ z. n (h.part ∙ z) in
-    stops (h.part ∙ sym (part_first es fs H m)) (h.blamed ∙ sym (blame_first es fs H m)) n
+pub tells_first : {es : List Event} (fs : List Event) {H : List Line} {y : Broken} → Tells es H (Err y) → Tells (es ++ fs) H (Err y)
+tells_first {es} fs {H} {y} h =
+    let m : tail_part es H ≡ 0 → ⊥ = λ z. positive y.part (h.part ∙ z) in
+    stops (h.part ∙ sym (part_first es fs H m)) (h.blamed ∙ sym (blame_first es fs H m))
 
-pub tells_then : {es : List Event} (fs : List Event) {H : List Line} {a b : Told} → Tells es H a → a.part ≡ 0 → Tells fs (view a.lines) b → Tells (es ++ fs) H b
-tells_then {es} fs {H} h z g =
-    let w : tail_part es H ≡ 0 = sym h.part ∙ z in
-    let v = is_view (h.lines w) in
-    let k = rw v at g in
+pub tells_then : {es : List Event} (fs : List Event) {H : List Line} {l : Lines} {t : Result Lines Broken} → Tells es H (Ok l) → Tells fs (view l) t → Tells (es ++ fs) H t
+tells_then {es} fs {H} h g =
+    let w : tail_part es H ≡ 0 = sym h.part in
+    let k = rw (is_view h.lines) at g in
     record {
       part = k.part ∙ sym (part_append es fs H w);
-      lines = λ y. rw (upon_append es fs H) (k.lines (sym (part_append es fs H w) ∙ y));
-      blamed = k.blamed ∙ sym (blame_append es fs H w);
+      lines = rw (upon_append es fs H) k.lines;
+      blamed = rw (blame_append es fs H w) k.blamed;
     }
 
 -- ---- a run of events in the bytes: from a place on, the part and the lines of all
 
-module _ (st : Reading) (p : Part) (r : List ℕ) (k n i T : ℕ) (U : List Line) (B : Blamed) (l : Lines) where
+module _ (st : Reading) (p : Section) (r : List ℕ) (k n i T : ℕ) (U : List Line) (B : Blamed) (l : Lines) where
   pub run_again : (e : Event) (step : ℕ) (m : Lines) → step ≡ size_of st p → e ≡ event_at st p r k → event_part e (view l) ≡ 0 → i < n → Holds m (upon e (view l))
       → tail_part (events_of st p (n - i) (drop k r)) (view l) ≡ T → upon_all (events_of st p (n - i) (drop k r)) (view l) ≡ U
       → tail_blame (events_of st p (n - i) (drop k r)) (view l) ≡ B

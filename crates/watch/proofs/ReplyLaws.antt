@@ -26,7 +26,9 @@ use Rattle.format.proofs.Tails.{u32_drop, words_more, tail_there}
 use Rattle.watch.specs.Places.{started_in, done_in}
 use Rattle.watch.specs.Book.{lists_in, refused_in, tallied, most}
 use Rattle.paper.specs.Blame.{first_serial, strangers}
-use Rattle.watch.specs.Judging.{calls, is_nothing}
+use Rattle.paper.specs.declared.Blamed.{Blamed}
+use Rattle.paper.specs.declared.Blamed.TheVariants.{Nothing, Picture, Surface, Both}
+use Rattle.watch.specs.Judging.{calls}
 use Rattle.watch.specs.declared.Tally.{Tally}
 use Rattle.watch.proofs.Bytes.{words_append, thrown_count, handed_count}
 
@@ -141,9 +143,22 @@ pub strange_end : (H : List Line) (bs : List ℕ) → strangers (read_serials 0 
 unfolding strangers keep read_words
 strange_end H bs = refl
 
+-- nothing is named
+abbrev pub is_nothing : Blamed → Bool
+is_nothing Nothing = true
+is_nothing (Picture n) = false
+is_nothing (Surface x) = false
+is_nothing (Both n x) = false
+
+pub something : (x : Blamed) → (x ≡ Nothing → ⊥) → is_nothing x ≡ false
+something Nothing n = absurd (n refl)
+something (Picture m) n = refl
+something (Surface y) n = refl
+something (Both m y) n = refl
+
 -- where there is no stranger all are named
 pub no_stranger : (ns : List Serial) (H : List Line) → is_nothing (first_serial (strangers ns H)) ≡ names ns H
-unfolding is_nothing first_serial strangers keep names all_b
+unfolding first_serial strangers keep names all_b
 no_stranger [] H = refl
 no_stranger (n ∷ ns) H = go (calls H n) (no_stranger ns H)
   where

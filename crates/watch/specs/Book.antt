@@ -1,5 +1,5 @@
 -- How the book's arrays hold the paper's ledger.
-use Rattle.std.specs.Prelude.{true, false, ◌≡◌, List, [], ◌∷◌, ℕ, ◌+◌, ◌≤◌, min, length, pos}
+use Rattle.std.specs.Prelude.{true, false, ◌≡◌, Option, None, Some, List, [], ◌∷◌, ℕ, ◌+◌, ◌≤◌, min, length, pos}
 use Rattle.derivation.specs.Pad.{Padded, used}
 use Rattle.paper.specs.declared.Line.{Line}
 use Rattle.paper.specs.Replies.{Reply}
@@ -8,8 +8,6 @@ use Rattle.paper.specs.declared.Reading.{Reading}
 use Rattle.paper.specs.Reading.{further}
 use Rattle.paper.specs.Accounts.{tail_in}
 use Rattle.watch.specs.declared.Lines.{Lines}
-use Rattle.watch.specs.declared.Slot.{Slot}
-use Rattle.watch.specs.declared.Slot.TheVariants.{Idle, Is}
 use Rattle.watch.specs.declared.Tally.{Tally}
 use Rattle.watch.specs.declared.Book.{Book}
 
@@ -32,9 +30,9 @@ Good l = Holds l (view l)
 abbrev pub clamped : Lines → Lines
 clamped l = record { items = l.items; len = min l.len 16 }
 
-abbrev pub current_in : Slot → List Line
-current_in Idle = []
-current_in (Is e) = e ∷ []
+abbrev pub current_in : Option Line → List Line
+current_in None = []
+current_in (Some e) = e ∷ []
 
 -- The ledger that a book is, whatever it holds
 abbrev pub book_in : Book → Ledger

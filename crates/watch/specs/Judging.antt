@@ -1,6 +1,5 @@
--- A reply against a book in normal form: the part it breaks, or 0 and the book after it, with tally and reading as they
--- were.
-use Rattle.std.specs.Prelude.{ℕ, ◌+◌, ◌*◌, ◌≤◌, ◌≡◌, List, [], ◌∷◌, Bool, true, false, not, ◌||◌, drop}
+-- A reply against a book in normal form: the book after it, with tally and reading as they were, or the part it breaks.
+use Rattle.std.specs.Prelude.{ℕ, ◌+◌, ◌*◌, ◌≤◌, ◌≡◌, List, [], ◌∷◌, Bool, true, not, ◌||◌, drop, Result, IfOk}
 use Rattle.paper.specs.Words.{◌gives◌, first, any_b}
 use Rattle.paper.specs.Numbers.{missing, same_serial}
 use Rattle.paper.specs.Kinds.{rest_place, word_width, members_place}
@@ -12,12 +11,11 @@ use Rattle.paper.specs.Watch.{reply_part, listed_part, end_part, abandon_part, l
 use Rattle.paper.specs.declared.Reading.{Reading}
 use Rattle.paper.specs.declared.Serial.{Serial}
 use Rattle.paper.specs.declared.Line.{Line}
-use Rattle.paper.specs.declared.Blamed.{Blamed}
-use Rattle.paper.specs.declared.Blamed.TheVariants.{Nothing, Picture, Surface, Both}
 use Rattle.watch.specs.Book.{view, Good, current_in, HoldsBook}
 use Rattle.watch.specs.Walks.{named}
 use Rattle.watch.specs.declared.Book.{Book}
-use Rattle.watch.specs.declared.Heard.{Heard}
+use Rattle.watch.specs.declared.demand.Part.{Part}
+use Rattle.watch.specs.Parts.{part_in}
 
 -- normal form
 pub record Tidy (b : Book) : Type 0 where
@@ -32,13 +30,6 @@ page_of b = record { held = view b.held; current = current_in b.current; begun =
 abbrev pub calls : List Line → Serial → Bool
 calls H n = same_serial n missing || any_b (named n) H
 
--- nothing is named
-unfoldable pub is_nothing : Blamed → Bool
-is_nothing Nothing = true
-is_nothing (Picture n) = false
-is_nothing (Surface x) = false
-is_nothing (Both n x) = false
-
 -- the last two parts of a begin whose reply has n members, of the lines that its tail leaves
 abbrev pub left_part : Reading → List Line → List ℕ → ℕ → ℕ
 left_part st H a n =
@@ -47,22 +38,22 @@ left_part st H a n =
     ∷ not (names (read_serials n (drop members_place a)) H) gives 12
     ∷ [])
 
--- the part, and the book after it where the part is 0
-pub record Gives (b : Book) (p : ℕ) (L : Ledger) (h : Heard) : Type 0 where
-  pub part : h.part ≡ p
-  pub book : p ≡ 0 → HoldsBook h.book b.reading L b.tally
+-- the part, or the book after it where there is none
+pub record Gives (b : Book) (p : ℕ) (L : Ledger) (h : Result Book Part) : Type 0 where
+  pub part : part_in h ≡ p
+  pub book : IfOk h (λ (k : Book). HoldsBook k b.reading L b.tally)
 
-abbrev pub Judged : Book → List ℕ → Reply → Heard → Type 0
+abbrev pub Judged : Book → List ℕ → Reply → Result Book Part → Type 0
 Judged b r x h = Gives b (reply_part (page_of b) r x) (tell (page_of b) r x) h
 
-abbrev pub Lists : Book → List Serial → Heard → Type 0
+abbrev pub Lists : Book → List Serial → Result Book Part → Type 0
 Lists b ns h = Gives b (listed_part (page_of b) ns) (page_of b) h
 
-abbrev pub Ends : Book → Tail → Heard → Type 0
+abbrev pub Ends : Book → Tail → Result Book Part → Type 0
 Ends b t h = Gives b (end_part t) (unchanged (page_of b) t) h
 
-abbrev pub Abandons : Book → Tail → Heard → Type 0
+abbrev pub Abandons : Book → Tail → Result Book Part → Type 0
 Abandons b t h = Gives b (abandon_part (page_of b) t) (abandoned (page_of b) t) h
 
-abbrev pub Lands : Book → ℕ → Tail → Heard → Type 0
+abbrev pub Lands : Book → ℕ → Tail → Result Book Part → Type 0
 Lands b kind t h = Gives b (landed_part kind (page_of b) t) (landed kind (page_of b) t) h

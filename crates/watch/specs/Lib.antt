@@ -1,4 +1,5 @@
 pub mod Book
+pub mod Parts
 pub mod Walks
 pub mod Events
 pub mod Places

@@ -1,18 +1,19 @@
 -- Exchanges in two runs of bytes: each whole record with the next whole reply.
-use Rattle.std.specs.Prelude.{ℕ, ◌+◌, ◌≤◌, ◌<◌, ◌≡◌, List, [], ◌∷◌, true, ◌||◌, length, take, drop, get_or, eqb}
+use Rattle.std.specs.Prelude.{ℕ, ◌+◌, ◌≤◌, ◌<◌, ◌≡◌, List, [], ◌∷◌, true, ◌||◌, length, take, drop, get_or, eqb, Option}
 use Rattle.paper.specs.Words.{all_b}
 use Rattle.format.specs.Cut.{size_of, is_whole, joined}
 use Rattle.paper.specs.declared.Reading.{Reading}
 use Rattle.paper.specs.Reading.{further, further_all}
 use Rattle.paper.specs.Ledger.{Ledger, read_reply}
 use Rattle.paper.specs.Watch.{watched}
-use Rattle.paper.specs.declared.Blamed.{Blamed}
 use Rattle.paper.specs.declared.Blamed.TheVariants.{Nothing}
 use Rattle.paper.specs.Blame.{blamed}
 use Rattle.watch.specs.Book.{book_in, HoldsBook, tallied}
 use Rattle.watch.specs.declared.Tally.{Tally}
 use Rattle.watch.specs.declared.Book.{Book}
+use Rattle.watch.specs.declared.demand.Broken.{Broken}
 use Rattle.watch.specs.declared.exchanges.Paired.{Paired}
+use Rattle.watch.specs.Parts.{part_at, blamed_at}
 
 -- the tally with what all these replies tell
 unfoldable pub tally_all : Reading → Tally → List (List ℕ) → Tally
@@ -26,15 +27,14 @@ pub record IsLedger (b : Book) (L : Ledger) : Type 0 where
   pub begun : (book_in b).begun ≡ L.begun
 
 -- what `hear_all` gives back
-abbrev pub paired_of : Book → ℕ → ℕ → ℕ → ℕ → Blamed → Paired
-paired_of book taken answered pairs part x =
+abbrev pub paired_of : Book → ℕ → ℕ → ℕ → Option Broken → Paired
+paired_of book taken answered pairs broken =
     record {
       book = book;
       taken = taken;
       answered = answered;
       pairs = pairs;
-      part = part;
-      blamed = x;
+      broken = broken;
     }
 
 -- The bytes taken are whole records and as many whole replies. `watched` finds that part in them, that many exchanges
@@ -47,14 +47,14 @@ pub record Watches (b : Book) (records replies : List ℕ) (p : Paired) : Type 0
   pub even : length said ≡ length answers
   pub cut_said : take p.taken records ≡ joined said
   pub cut_answers : take p.answered replies ≡ joined answers
-  pub part : p.part ≡ (watched b.reading 0 (book_in b) said answers).part
+  pub part : part_at p.broken ≡ (watched b.reading 0 (book_in b) said answers).part
   pub pairs : p.pairs ≡ (watched b.reading 0 (book_in b) said answers).at
   -- the exchange that breaks a part is the last one that is taken
-  pub last : (p.part ≡ 0 → ⊥) → length said ≡ p.pairs + 1
+  pub last : (part_at p.broken ≡ 0 → ⊥) → length said ≡ p.pairs + 1
   -- and what it names is told from it and the book in front of it; where none breaks a part, nothing is named
-  pub blamed : (p.part ≡ 0 → ⊥)
-      → p.blamed ≡ blamed p.book.reading (book_in p.book) (get_or said p.pairs []) (get_or answers p.pairs [])
-  pub unblamed : p.part ≡ 0 → p.blamed ≡ Nothing
+  pub blamed : (part_at p.broken ≡ 0 → ⊥)
+      → blamed_at p.broken ≡ blamed p.book.reading (book_in p.book) (get_or said p.pairs []) (get_or answers p.pairs [])
+  pub unblamed : part_at p.broken ≡ 0 → blamed_at p.broken ≡ Nothing
   pub ledger : IsLedger p.book (watched b.reading 0 (book_in b) said answers).ledger
   pub tally : p.book.tally ≡ tally_all b.reading b.tally (take p.pairs answers)
   pub reading : p.book.reading ≡ further_all b.reading (take p.pairs answers)
@@ -71,5 +71,5 @@ pub record WatchesAll (b : Book) (records replies : List ℕ) (p : Paired) : Typ
   pub watches : Watches b records replies p
   pub taken : p.taken ≤ length records
   pub answered : p.answered ≤ length replies
-  pub rest : p.part ≡ 0
+  pub rest : part_at p.broken ≡ 0
       → (eqb (size_of (drop p.taken records)) 0 || eqb (size_of (drop p.answered replies)) 0) ≡ true

@@ -1,13 +1,11 @@
 -- What a walk over the lines asks for or does, as tests and changes of one line.
-use Rattle.std.specs.Prelude.{Bool, true, not, ◌&&◌, eqb}
+use Rattle.std.specs.Prelude.{Bool, true, not, ◌&&◌, eqb, Option, None, Some}
 use Rattle.paper.specs.Ledger.{waits_as, waits, lies, off}
 use Rattle.paper.specs.declared.Serial.{Serial}
 use Rattle.paper.specs.declared.Surface.{Surface}
 use Rattle.paper.specs.declared.Line.{Line}
 use Rattle.watch.specs.declared.line.Ask.{Ask}
 use Rattle.watch.specs.declared.line.Ask.TheVariants.{Waits, WaitsAs, Lies, WaitsAt, Named, Any}
-use Rattle.watch.specs.declared.line.Change.{Change}
-use Rattle.watch.specs.declared.line.Change.TheVariants.{Same, Off}
 
 abbrev pub named : Serial → Line → Bool
 named n e = eqb n.0 e.serial.0
@@ -27,6 +25,7 @@ asking (WaitsAt x) = waits_at x
 asking (Named n) = named n
 asking Any = λ (e : Line). true
 
-abbrev pub changing : Change → Line → Line
-changing Same e = e
-changing (Off n) e = off n.0 e
+-- no longer waiting if it has this serial
+abbrev pub changing : Option Serial → Line → Line
+changing None e = e
+changing (Some n) e = off n.0 e

@@ -5,11 +5,12 @@ ghost use Rattle.paper.specs.Ledger.{upon, events, read_tail, Hand, Throw, Free}
 ghost use Rattle.paper.specs.Watch.{event_part};
 ghost use Rattle.paper.specs.Blame.{event_blame};
 ghost use Rattle.watch.specs.Book.{Holds, view, Good};
+ghost use Rattle.watch.specs.Parts.{part_in};
 ghost use Rattle.watch.specs.Events.{Tells, event_in, event_at, size_of, events_of, counted, shown_at};
 
-use crate::Lines;
 use crate::held::{change_all, found, freed, has_any};
-use crate::line::{Ask, Change};
+use crate::line::Ask;
+use crate::{Broken, Lines, Part};
 use format::{behind, behind_shown, kinds, shown_width};
 use paper::{Blamed, Reading, Serial, Shown, Surface};
 
@@ -21,20 +22,12 @@ pub enum Event {
     Free(Surface),
 }
 
-// The three parts of a tail.
+// The three sections of a tail.
 #[derive(Clone, Copy)]
-pub enum Part {
+pub enum Section {
     Handed,
     Thrown,
     Released,
-}
-
-// The part of demand 3 that the events break, with what they break it with, or 0 and the lines after them.
-#[derive(Clone, Copy)]
-pub struct Told {
-    pub part: u8,
-    pub lines: Lines,
-    pub blamed: Blamed,
 }
 
 // The picture handed out that stands at a place: "serial u32, surface u32, POC i32".
@@ -50,64 +43,72 @@ fn shown_at(st: Reading, reply: &[u8], at: usize) -> Shown
 }
 
 // The event that stands at a place.
-fn event_at(st: Reading, p: Part, reply: &[u8], at: usize) -> Event
+fn event_at(st: Reading, p: Section, reply: &[u8], at: usize) -> Event
     requires { at < 100000 }
     ensures { event_in result ≡ event_at st p reply.now at }
 {
     match p {
-        Part::Handed => Event::Hand(shown_at(st, reply, at)),
-        Part::Thrown => Event::Throw(Serial(wire::u32_at(reply, at))),
-        Part::Released => Event::Free(Surface(wire::u32_at(reply, at))),
+        Section::Handed => Event::Hand(shown_at(st, reply, at)),
+        Section::Thrown => Event::Throw(Serial(wire::u32_at(reply, at))),
+        Section::Released => Event::Free(Surface(wire::u32_at(reply, at))),
     }
 }
 
-// How many bytes an event of this part has.
-fn size(st: Reading, p: Part) -> usize
+// How many bytes an event of this section has.
+fn size(st: Reading, p: Section) -> usize
     ensures { (result ≡ size_of st p) × (result ≤ shown_width_in st) }
 {
     match p {
-        Part::Handed => shown_width(st) as usize,
-        Part::Thrown => kinds::WORD,
-        Part::Released => kinds::WORD,
+        Section::Handed => shown_width(st) as usize,
+        Section::Thrown => kinds::WORD,
+        Section::Released => kinds::WORD,
     }
 }
 
-// Handed out: 6 where no picture of that serial waits, 7 where one waits on another surface or with another POC.
-fn hand_part(l: Lines, x: Shown) -> u8
-    ensures { result ≡ event_part (Hand x) (view l) }
+// Handed out: a picture of that serial waits, on that surface and with that POC.
+fn may_hand(l: Lines, x: Shown) -> Result<(), Part>
+    ensures { part_in result ≡ event_part (Hand x) (view l) }
 {
-    let n = x.serial;
+    if !has_any(l, Ask::Waits(x.serial)) {
+        return Err(Part::HandedNotWaiting);
+    }
+    if !has_any(l, Ask::WaitsAs(x)) {
+        return Err(Part::HandedElsewhere);
+    }
+    Ok(())
+}
+
+// Thrown away: a picture of that serial waits.
+fn may_throw(l: Lines, n: Serial) -> Result<(), Part>
+    ensures { part_in result ≡ event_part (Throw n) (view l) }
+{
     if !has_any(l, Ask::Waits(n)) {
-        return 6;
+        return Err(Part::ThrownNotWaiting);
     }
-    if has_any(l, Ask::WaitsAs(x)) { 0 } else { 7 }
+    Ok(())
 }
 
-// Thrown away: 8 where no picture of that serial waits.
-fn throw_part(l: Lines, n: Serial) -> u8
-    ensures { result ≡ event_part (Throw n) (view l) }
-{
-    if has_any(l, Ask::Waits(n)) { 0 } else { 8 }
-}
-
-// Released: 10 where nothing lies there, 11 where what lies there still waits.
-fn free_part(l: Lines, x: Surface) -> u8
-    ensures { result ≡ event_part (Free x) (view l) }
+// Released: something lies there, and what lies there no longer waits.
+fn may_free(l: Lines, x: Surface) -> Result<(), Part>
+    ensures { part_in result ≡ event_part (Free x) (view l) }
 {
     if !has_any(l, Ask::Lies(x)) {
-        return 10;
+        return Err(Part::ReleasedNothing);
     }
-    if has_any(l, Ask::WaitsAt(x)) { 11 } else { 0 }
+    if has_any(l, Ask::WaitsAt(x)) {
+        return Err(Part::ReleasedWaiting);
+    }
+    Ok(())
 }
 
-// The part that one event breaks, or 0.
-fn event_part(l: Lines, e: Event) -> u8
-    ensures { result ≡ event_part (event_in e) (view l) }
+// Whether one event may happen, or the part that it breaks.
+fn may_happen(l: Lines, e: Event) -> Result<(), Part>
+    ensures { part_in result ≡ event_part (event_in e) (view l) }
 {
     match e {
-        Event::Hand(x) => hand_part(l, x),
-        Event::Throw(n) => throw_part(l, n),
-        Event::Free(x) => free_part(l, x),
+        Event::Hand(x) => may_hand(l, x),
+        Event::Throw(n) => may_throw(l, n),
+        Event::Free(x) => may_free(l, x),
     }
 }
 
@@ -117,22 +118,10 @@ fn event_blame(l: Lines, e: Event) -> Blamed
     ensures { result ≡ event_blame (event_in e) (view l) }
 {
     match e {
-        Event::Hand(x) => {
-            let n = x.serial;
-            let s = x.surface;
-            Blamed::Both(n, s)
-        }
+        Event::Hand(x) => Blamed::Both(x.serial, x.surface),
         Event::Throw(n) => found(l, Ask::Named(n), Blamed::Picture(n)),
         Event::Free(x) => found(l, Ask::WaitsAt(x), Blamed::Surface(x)),
     }
-}
-
-// The lines no longer wait of which one was handed out.
-fn handed(l: Lines, x: Shown) -> Lines
-    ensures { Holds result (upon (Hand x) (view l)) }
-{
-    let n = x.serial;
-    change_all(l, Change::Off(n))
 }
 
 // The lines after one event.
@@ -140,45 +129,42 @@ fn after(l: Lines, e: Event) -> Lines
     ensures { Holds result (upon (event_in e) (view l)) }
 {
     match e {
-        Event::Hand(x) => handed(l, x),
-        Event::Throw(n) => change_all(l, Change::Off(n)),
+        Event::Hand(x) => change_all(l, Some(x.serial)),
+        Event::Throw(n) => change_all(l, Some(n)),
         Event::Free(x) => freed(l, x),
     }
 }
 
-// n events of one part, one after the other, up to the first that is wrong.
-fn run(st: Reading, l: Lines, p: Part, reply: &[u8], at: usize, n: usize) -> Told
+// The lines after n events of one section, one after the other, or the part that the first wrong one breaks, with what
+// it breaks it with.
+fn run(
+    st: Reading,
+    l: Lines,
+    p: Section,
+    reply: &[u8],
+    at: usize,
+    n: usize,
+) -> Result<Lines, Broken>
     requires { Good l × ((n ≤ 255) × (at ≤ 30000)) }
     ensures { Tells (events_of st p n (drop at reply.now)) (view l) result }
 {
     let step = size(st, p);
     let mut lines = l;
     let mut place = at;
-    let mut i: usize = 0;
-    while i < n {
+    for _ in 0..n {
         let e = event_at(st, p, reply, place);
-        let part = event_part(lines, e);
-        if part != 0 {
+        if let Err(part) = may_happen(lines, e) {
             let blamed = event_blame(lines, e);
-            return Told {
-                part,
-                lines,
-                blamed,
-            };
+            return Err(Broken { part, blamed });
         }
         lines = after(lines, e);
         place += step;
-        i += 1;
     }
-    Told {
-        part: 0,
-        lines,
-        blamed: Blamed::Nothing,
-    }
+    Ok(lines)
 }
 
 // A count and as many events.
-fn run_counted(st: Reading, l: Lines, p: Part, reply: &[u8], at: usize) -> Told
+fn run_counted(st: Reading, l: Lines, p: Section, reply: &[u8], at: usize) -> Result<Lines, Broken>
     requires { Good l × (at < 30000) }
     ensures { Tells (counted st p (drop at reply.now)) (view l) result }
 {
@@ -187,21 +173,13 @@ fn run_counted(st: Reading, l: Lines, p: Part, reply: &[u8], at: usize) -> Told
 }
 
 // The tail that stands at a place: "each picture handed out; .. serials thrown away; .. surfaces released".
-pub(crate) fn tail(st: Reading, l: Lines, reply: &[u8], at: usize) -> Told
+pub(crate) fn tail(st: Reading, l: Lines, reply: &[u8], at: usize) -> Result<Lines, Broken>
     requires { Good l × (at < 20000) }
     ensures { Tells (events (read_tail st (drop at reply.now))) (view l) result }
 {
-    let a = run_counted(st, l, Part::Handed, reply, at);
-    if a.part != 0 {
-        return a;
-    }
+    let shown = run_counted(st, l, Section::Handed, reply, at)?;
     let second = behind_shown(st, reply, at);
-    let x = a.lines;
-    let b = run_counted(st, x, Part::Thrown, reply, second);
-    if b.part != 0 {
-        return b;
-    }
+    let kept = run_counted(st, shown, Section::Thrown, reply, second)?;
     let third = behind(reply, second, kinds::WORD_WIDTH);
-    let y = b.lines;
-    run_counted(st, y, Part::Released, reply, third)
+    run_counted(st, kept, Section::Released, reply, third)
 }

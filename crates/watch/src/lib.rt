@@ -4,6 +4,7 @@
 #![tactic(auto)]
 
 mod blamed;
+mod demand;
 mod events;
 mod exchanges;
 mod held;
@@ -12,13 +13,14 @@ mod parts;
 mod replies;
 mod totals;
 
-ghost use Rattle.std.specs.Prelude.{[]};
+ghost use Rattle.std.specs.Prelude.{◌≡◌, [], ◌≤◌, length};
 ghost use Rattle.paper.specs.Reading.{opening};
 ghost use Rattle.paper.specs.Ledger.{blank};
-ghost use Rattle.watch.specs.Book.{Holds, HoldsBook, no_tally};
+ghost use Rattle.watch.specs.Book.{Holds, HoldsBook, view, clamped, no_tally};
 ghost use Rattle.watch.specs.Hears.{Hears};
 
 pub use blamed::blame;
+pub use demand::{Broken, Part};
 pub use exchanges::{Paired, hear_all};
 use paper::{Line, Reading, Serial, Surface};
 pub use replies::plus;
@@ -32,13 +34,6 @@ pub struct Lines {
     pub len: usize,
 }
 
-// The line of the current picture, if there is one.
-#[derive(Clone, Copy)]
-pub enum Slot {
-    Idle,
-    Is(Line),
-}
-
 // How many pictures were handed out and thrown away, how many accepted lists were checked, and how many records were
 // refused; each stops at the greatest value.
 #[derive(Clone, Copy)]
@@ -49,22 +44,15 @@ pub struct Tally {
     pub refused: u64,
 }
 
-// What somebody knows who has seen the records and the replies: the pictures stored, the current one, how many were
-// begun, the tally, and what the reader of the replies carries to the next one.
+// What somebody knows who has seen the records and the replies: the pictures stored, the current one if there is one,
+// how many were begun, the tally, and what the reader of the replies carries to the next one.
 #[derive(Clone, Copy)]
 pub struct Book {
     pub held: Lines,
-    pub current: Slot,
+    pub current: Option<Line>,
     pub begun: u64,
     pub tally: Tally,
     pub reading: Reading,
-}
-
-// The part of demand 3 that an exchange breaks, or 0, and the book after it.
-#[derive(Clone, Copy)]
-pub struct Heard {
-    pub part: u8,
-    pub book: Book,
 }
 
 impl Lines {
@@ -81,8 +69,28 @@ impl Lines {
             poc: 0,
             wants: false,
         };
-        let items = [e; Lines::PLACES];
-        Lines { items, len: 0 }
+        Lines {
+            items: [e; Lines::PLACES],
+            len: 0,
+        }
+    }
+
+    // The lines in the used places: a length over their number counts as their number.
+    pub(crate) fn in_use(&self) -> &[Line]
+        ensures lines { result.now ≡ view self.now }
+        ensures few { length (view self.now) ≤ 17 }
+    {
+        &self.items[..self.len.min(Lines::PLACES)]
+    }
+
+    // The first of them, as many as a store holds.
+    pub(crate) fn within_capacity(self) -> Self
+        ensures { result ≡ clamped self }
+    {
+        Lines {
+            len: self.len.min(Store::CAPACITY),
+            ..self
+        }
     }
 }
 
@@ -91,11 +99,9 @@ impl Book {
     pub fn new() -> Self
         ensures { HoldsBook result opening blank no_tally }
     {
-        let reading = format::opening();
-        let held = Lines::none();
         Book {
-            held,
-            current: Slot::Idle,
+            held: Lines::none(),
+            current: None,
             begun: 0,
             tally: Tally {
                 handed: 0,
@@ -103,31 +109,21 @@ impl Book {
                 lists: 0,
                 refused: 0,
             },
-            reading,
+            reading: format::opening(),
         }
     }
 }
 
-// One exchange: the first part of demand 3 that it breaks, or 0 and the book after it. A broken exchange leaves the
-// book as it was.
-pub fn hear(b: Book, msg: &[u8], reply: &[u8]) -> Heard
+// One exchange: the book after it, or the first part of demand 3 that it breaks. A broken exchange goes into no book.
+pub fn hear(b: Book, msg: &[u8], reply: &[u8]) -> Result<Book, Part>
     ensures { Hears b msg.now reply.now result }
 {
-    let st = b.reading;
-    if !format::is_whole(st, reply) {
-        return Heard { part: 1, book: b };
+    if !format::is_whole(b.reading, reply) {
+        return Err(Part::NotWhole);
     }
     if !replies::answers(msg, reply) {
-        return Heard { part: 2, book: b };
+        return Err(Part::OtherReply);
     }
-    let j = parts::judge(held::tidy(b), msg, reply);
-    if j.part != 0 {
-        return Heard {
-            part: j.part,
-            book: b,
-        };
-    }
-    let k = j.book;
-    let book = replies::counted(k, reply);
-    Heard { part: 0, book }
+    let k = parts::judge(held::tidy(b), msg, reply)?;
+    Ok(replies::counted(k, reply))
 }

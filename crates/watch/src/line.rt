@@ -1,6 +1,5 @@
 // One line of the ledger: its tests and its change.
 ghost use Rattle.std.specs.Prelude.{◌≡◌, not};
-ghost use Rattle.paper.specs.Poc.{eq_z};
 ghost use Rattle.paper.specs.Ledger.{waits_as, waits, lies, off};
 ghost use Rattle.watch.specs.Walks.{asking, changing, waits_at, named};
 
@@ -18,34 +17,18 @@ pub enum Ask {
     Any,
 }
 
-// What a walk does to every line: nothing; it no longer waits if this is its serial.
-#[derive(Clone, Copy)]
-pub enum Change {
-    Same,
-    Off(Serial),
-}
-
-// Whether two POCs are equal.
-fn same_poc(a: i32, b: i32) -> bool
-    ensures { result ≡ eq_z a b }
-{
-    a == b
-}
-
 // Whether the line has this serial.
 fn is_named(e: Line, n: Serial) -> bool
     ensures { result ≡ named n e }
 {
-    let m = e.serial;
-    n.0 == m.0
+    n == e.serial
 }
 
 // Whether the line is on this surface.
 fn lies_at(e: Line, x: Surface) -> bool
     ensures { result ≡ lies x.0 e }
 {
-    let y = e.surface;
-    x.0 == y.0
+    x == e.surface
 }
 
 // Whether the line waits and has this serial.
@@ -66,9 +49,7 @@ fn waits_at(e: Line, x: Surface) -> bool
 fn waits_as(e: Line, x: Shown) -> bool
     ensures { result ≡ waits_as x e }
 {
-    let n = x.serial;
-    let s = x.surface;
-    e.wants & (is_named(e, n) & (lies_at(e, s) & same_poc(x.poc, e.poc)))
+    e.wants & (is_named(e, x.serial) & (lies_at(e, x.surface) & (x.poc == e.poc)))
 }
 
 // Whether the line is what a walk asks for.
@@ -89,20 +70,17 @@ pub(crate) fn asked(q: Ask, e: Line) -> bool
 fn turned_off(e: Line, n: Serial) -> Line
     ensures { result ≡ off n.0 e }
 {
-    let is = is_named(e, n);
-    let mut f = e;
-    f.wants = e.wants & !is;
-    f
+    Line {
+        wants: e.wants & !is_named(e, n),
+        ..e
+    }
 }
 
-// What a walk makes of a line.
-pub(crate) fn changed(e: Line, c: Change) -> Line
-    ensures { result ≡ changing c e }
+// The line, no longer waiting if it has this serial; the same line where there is none.
+pub(crate) fn changed(e: Line, off: Option<Serial>) -> Line
+    ensures { result ≡ changing off e }
 {
-    match c {
-        Change::Same => e,
-        Change::Off(n) => turned_off(e, n),
-    }
+    off.map_or(e, |n| turned_off(e, n))
 }
 
 // Whether the line is not on this surface: a release leaves it.

@@ -1,26 +1,22 @@
 // The reply's bytes: whether they answer the record, and what they tell of numbers.
-ghost use Rattle.std.specs.Prelude.{◌≡◌, cond, ◌+◌, ◌-◌, min, eqb};
+ghost use Rattle.std.specs.Prelude.{◌≡◌, cond, ◌+◌, min, eqb};
 ghost use Rattle.paper.specs.Numbers.{u16};
-ghost use Rattle.paper.specs.Kinds.{reply_offset, reply_to, malformed_reply, number_place};
+ghost use Rattle.paper.specs.Kinds.{reply_to, malformed_reply, number_place};
 ghost use Rattle.paper.specs.Records.{kind_of};
 ghost use Rattle.paper.specs.Ledger.{heard, read_reply};
 ghost use Rattle.paper.specs.declared.Reading.{Reading};
+ghost use Rattle.format.specs.Kind.{RepliesTo};
 ghost use Rattle.watch.specs.Book.{tallied, most, gone_on};
 
 use crate::{Book, Tally};
-use format::{behind_shown, further, kinds, tail_place};
+use format::{Kind, behind_shown, further, kinds, tail_place};
 use paper::Reading;
 
-// The kind of record that a reply kind answers.
-pub(crate) fn kind_answered(reply: &[u8]) -> u16
-    ensures { result ≡ kind_of reply.now - reply_offset }
+// The kind of record that the reply is one to.
+pub(crate) fn kind_answered(reply: &[u8]) -> Option<Kind>
+    ensures { RepliesTo (kind_of reply.now) result }
 {
-    let k = wire::u16_at(reply, kinds::KIND_PLACE);
-    if k < kinds::REPLY {
-        0
-    } else {
-        k - kinds::REPLY
-    }
+    Kind::of_reply(wire::u16_at(reply, kinds::KIND_PLACE))
 }
 
 // Whether the refusal is one of that record: "kind 256 + record kind", or the kind of number 13.
@@ -33,31 +29,26 @@ fn refusal_answers(msg: &[u8], reply: &[u8]) -> bool
     if wire::u16_at(reply, kinds::NUMBER_PLACE) == 13 {
         return k == kinds::MALFORMED;
     }
-    k as u32 == kinds::REPLY as u32 + wire::u16_at(msg, kinds::KIND_PLACE) as u32
+    k.checked_sub(kinds::REPLY) == Some(wire::u16_at(msg, kinds::KIND_PLACE))
 }
 
-// Whether the reply is one to that record, whatever came before.
+// Whether the reply is one to that record, whatever came before and whether or not the numbers are those of kinds.
 pub(crate) fn answers(msg: &[u8], reply: &[u8]) -> bool
     ensures { (st : Reading)
         → result ≡ heard msg.now (read_reply st reply.now) }
 {
-    let k = wire::u16_at(msg, kinds::KIND_PLACE);
     if wire::u16_at(reply, kinds::NUMBER_PLACE) != 0 {
         return refusal_answers(msg, reply);
     }
-    kind_answered(reply) == k
+    let k = wire::u16_at(reply, kinds::KIND_PLACE).saturating_sub(kinds::REPLY);
+    k == wire::u16_at(msg, kinds::KIND_PLACE)
 }
 
 // The sum, stopping at the greatest value.
 pub fn plus(a: u64, n: usize) -> u64
     ensures { result ≡ min (a + n) most }
 {
-    let m = n as u64;
-    if a < 18446744073709551615 - m {
-        a + m
-    } else {
-        18446744073709551615
-    }
+    a.saturating_add(n as u64)
 }
 
 // The tally with what the reply tells.
@@ -66,18 +57,14 @@ fn tally_of(st: Reading, t: Tally, reply: &[u8]) -> Tally
 {
     if wire::u16_at(reply, kinds::NUMBER_PLACE) != 0 {
         return Tally {
-            handed: t.handed,
-            thrown: t.thrown,
-            lists: t.lists,
             refused: plus(t.refused, 1),
+            ..t
         };
     }
-    if wire::u16_at(reply, kinds::KIND_PLACE) == kinds::LISTED {
+    if wire::u16_at(reply, kinds::KIND_PLACE) == Kind::Lists.reply() {
         return Tally {
-            handed: t.handed,
-            thrown: t.thrown,
             lists: plus(t.lists, 1),
-            refused: t.refused,
+            ..t
         };
     }
     let at = tail_place(reply);
@@ -85,8 +72,7 @@ fn tally_of(st: Reading, t: Tally, reply: &[u8]) -> Tally
     Tally {
         handed: plus(t.handed, wire::byte(reply, at) as usize),
         thrown: plus(t.thrown, wire::byte(reply, second) as usize),
-        lists: t.lists,
-        refused: t.refused,
+        ..t
     }
 }
 
@@ -94,17 +80,9 @@ fn tally_of(st: Reading, t: Tally, reply: &[u8]) -> Tally
 pub(crate) fn counted(b: Book, reply: &[u8]) -> Book
     ensures { result ≡ gone_on b reply.now }
 {
-    let st = b.reading;
-    let held = b.held;
-    let current = b.current;
-    let t = b.tally;
-    let tally = tally_of(st, t, reply);
-    let reading = further(st, reply);
     Book {
-        held,
-        current,
-        begun: b.begun,
-        tally,
-        reading,
+        tally: tally_of(b.reading, b.tally, reply),
+        reading: further(b.reading, reply),
+        ..b
     }
 }

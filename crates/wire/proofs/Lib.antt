@@ -1,4 +1,5 @@
 pub mod Below
+pub mod Powers
 pub mod Laws
 pub mod Ints
 pub mod Flat

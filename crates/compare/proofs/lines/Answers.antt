@@ -1,42 +1,48 @@
 -- Each turn takes one pair, and its line goes behind the others; nothing is taken where no pair waits.
-use Prim.Native.Nat.{ℕ, ◌+◌, ◌-◌}
-use mathlib.Core.Path.{◌≡◌, refl, sym, ap₂, ◌∙◌}
+use mathlib.Core.Path.{◌≡◌, refl, ap₂}
+use mathlib.Core.Bool.{Bool, true, false}
 use mathlib.Core.List.{List}
-use mathlib.Core.Bool.{Bool, true, false, not}
+use Prim.Native.Nat.{ℕ}
 use native.Mathlib.Omega.{arith}
 use borrow.Author.Rules.{rules}
-use borrow.Author.Tests.{not-false}
 use lib.ListN.{take, drop}
-use Rattle.stream.specs.Text.{Wrote}
 use Rattle.stream.proofs.Spelling.{retold}
-use Rattle.compare.specs.Pairs.{pair_text}
+use Rattle.compare.specs.Pairs.{reply_size, goes_with, goes, pair_text}
 use Rattle.compare.proofs.Pairing.{off_fits}
-use Rattle.compare.proofs.Lining.{nothing_yet, size_at, one_pair}
+use Rattle.compare.proofs.Lining.{nothing_yet, goes_more, one_pair}
 use Rattle.compare.proofs.lines.Goals as goal
 
--- the test of the code
-went : {t : Bool} (b : Bool) → b ≡ t → not b ≡ false → t ≡ true
-went b e h = sym e ∙ not-false b h
+none_goes : (b : Bool) → (b ≡ true → ⊥) → b ≡ false
+none_goes true h = absurd (h refl)
+none_goes false h = refl
 
--- the bytes from i on, n of them
-same_bytes : {at most r : ℕ} {before after : List ℕ} (next n m : ℕ) (first second : List ℕ) (i j : ℕ) → Wrote before at (pair_text next (take (i + n - i) (drop i first)) (take (j + m - j) (drop j second))) most r after
-    → Wrote before at (pair_text next (take n (drop i first)) (take m (drop j second))) most r after
-same_bytes next n m first second i j w =
-    let p : i + n - i ≡ n = omega arith in
-    let q : j + m - j ≡ m = omega arith in
-    retold (ap₂ (λ (x y : ℕ). pair_text next (take x (drop i first)) (take y (drop j second))) p q) w
+pub loop-c-init : goal.loop-c-init
+loop-c-init c = (omega arith, omega arith, omega arith, nothing_yet _ _ _ _ _ _)
 
-pub loop-made-init : goal.loop-made-init
-loop-made-init c = (omega arith, omega arith, omega arith, refl, nothing_yet _ _ _ _ _ _)
+pub returns-in_default-clause-all : goal.returns-in_default-clause-all
+returns-in_default-clause-all c =
+    let k = none_goes _ c.in_default.ensures in
+    λ _. rw (c.behind-a.ensures.0, c.behind-a.ensures.1, c.behind-b.ensures.0, c.behind-b.ensures.1) at k
 
-pub loop-made-preserved : goal.loop-made-preserved
-loop-made-preserved c =
-    let n = size_at c.args.first_ended c.args.first.now c.loop-made.i c.reply_size-n.ensures in
-    let m = size_at c.args.second_ended c.args.second.now c.loop-made.j c.reply_size-m.ensures in
-    let t = went c.goes.result c.goes.ensures (search rules) in (
-      off_fits c.args.first_ended c.args.first.now c.loop-made.i c.loop-made.invariant.0 n,
-      off_fits c.args.second_ended c.args.second.now c.loop-made.j c.loop-made.invariant.1 m,
-      omega (arith, c.put_line-made.ensures.fits, c.put_line-made.auto.out, c.loop-made-test.true),
-      c.put_line-made.auto.out ∙ c.loop-made.invariant.3,
-      one_pair c.args.first_ended c.args.second_ended c.args.first.now c.args.second.now c.loop-made.i c.loop-made.j c.loop-made.invariant.0 c.loop-made.invariant.1 n m t c.loop-made-test.true c.loop-made.invariant.4 (same_bytes c.loop-made.next c.reply_size-n.result c.reply_size-m.result c.args.first.now c.args.second.now c.loop-made.i c.loop-made.j c.put_line-made.ensures),
+pub loop-c-smaller : goal.loop-c-smaller
+loop-c-smaller c =
+    let n : c.in-Some.n ≡ reply_size c.args.first.ended (drop c.loop-c.c.first c.args.first.bytes.now) = search rules in
+    let m : c.in-Some.m ≡ reply_size c.args.second.ended (drop c.loop-c.c.second c.args.second.bytes.now) = search rules in
+    let t : goes c.loop-c.c.number c.args.first.ended (drop c.loop-c.c.first c.args.first.bytes.now) c.args.second.ended (drop c.loop-c.c.second c.args.second.bytes.now) ≡ true = search rules in
+    let w : goes_with c.loop-c.c.number c.args.first.ended c.in-Some.n c.args.second.ended c.in-Some.m ≡ true = rw (n, m) t in
+    let k = off_fits c.args.first.ended c.args.first.bytes.now c.loop-c.c.first c.loop-c.invariant.0 n in
+    let l = off_fits c.args.second.ended c.args.second.bytes.now c.loop-c.c.second c.loop-c.invariant.1 m in
+    omega (arith, k, l, goes_more c.loop-c.c.number c.args.first.ended c.in-Some.n c.args.second.ended c.in-Some.m w)
+
+pub loop-c-preserved : goal.loop-c-preserved
+loop-c-preserved c =
+    let n : c.in-Some.n ≡ reply_size c.args.first.ended (drop c.loop-c.c.first c.args.first.bytes.now) = search rules in
+    let m : c.in-Some.m ≡ reply_size c.args.second.ended (drop c.loop-c.c.second c.args.second.bytes.now) = search rules in
+    let t : goes c.loop-c.c.number c.args.first.ended (drop c.loop-c.c.first c.args.first.bytes.now) c.args.second.ended (drop c.loop-c.c.second c.args.second.bytes.now) ≡ true = search rules in
+    let w : goes_with c.loop-c.c.number c.args.first.ended c.in-Some.n c.args.second.ended c.in-Some.m ≡ true = rw (n, m) t in
+    let p = retold (ap₂ (λ (x y : List ℕ). pair_text c.loop-c.c.number (take c.in-Some.n x) (take c.in-Some.m y)) c.behind-a.ensures.0 c.behind-b.ensures.0) c.put_line-made.ensures in (
+      off_fits c.args.first.ended c.args.first.bytes.now c.loop-c.c.first c.loop-c.invariant.0 n,
+      off_fits c.args.second.ended c.args.second.bytes.now c.loop-c.c.second c.loop-c.invariant.1 m,
+      omega (arith, c.put_line-made.ensures.fits, c.put_line-made.auto.out, c.loop-c-test.true),
+      one_pair c.args.first.ended c.args.second.ended c.args.first.bytes.now c.args.second.bytes.now c.loop-c.c.first c.loop-c.c.second c.loop-c.invariant.0 c.loop-c.invariant.1 n m w c.loop-c-test.true c.loop-c.invariant.3 p,
     )

@@ -1,26 +1,27 @@
--- Some turns led here from number 0, the sources are those of the two files, and the turns that are left fall.
-use mathlib.Core.Path.{refl}
+-- Some turns led here from number 0, and one turn more does where it ends.
+use mathlib.Core.Path.{refl, ap}
 use mir.Facts.{to_z-of_z}
-use native.Mathlib.Omega.{arith}
 use borrow.Author.Rules.{rules}
-use Rattle.stream.proofs.Running.{fewer, begins, one_turn}
 use Rattle.stream.proofs.Sides.{none_held}
+use Rattle.stream.proofs.Running.{no_turn, next_turn}
+use Rattle.compare.specs.Next.{is_more}
 use Rattle.compare.specs.Turns.{Turning}
 use Rattle.compare.proofs.Running.{compares}
 use Rattle.compare.proofs.run.Goals as goal
 
-pub loop-left-init : goal.loop-left-init
-loop-left-init g c =
+pub loop-init : goal.loop-init
+loop-init g c =
     let a = c.unread.ensures in
     let b = c.unread-2.ensures in
-    (none_held a, none_held b, refl, refl, refl, search rules, search rules, begins _ Turning _ (record { number = refl; first = a; second = b; more = refl }))
+    (none_held a, none_held b, search rules, search rules, refl, no_turn _ Turning _ (record { number = refl; first = a; second = b; more = refl }))
 
-pub loop-left-smaller : goal.loop-left-smaller
-loop-left-smaller g c = omega (arith, fewer c.turns_left-left.ensures)
+pub loop-preserved : goal.loop-preserved
+loop-preserved g c =
+    (search rules, search rules, search rules, search rules, search rules, next_turn _ Turning _ _ c.loop.invariant.5 (ap is_more c.loop.invariant.4, c.turn-s.ensures.turned))
 
-pub loop-left-preserved : goal.loop-left-preserved
-loop-left-preserved g c =
-    (search rules, search rules, search rules, search rules, search rules, search rules, search rules, one_turn _ Turning _ _ c.loop-left.invariant.7 (omega arith) c.turns_left-left.ensures (λ m. (m, c.turn-s.ensures.turned)))
+pub returns-then-ne : goal.returns-then-ne
+returns-then-ne g c =
+    rw (to_z-of_z c.ranges.first_fd, to_z-of_z c.ranges.second_fd) at (compares _ _ _ (next_turn _ Turning _ _ c.loop.invariant.5 (ap is_more c.loop.invariant.4, c.turn-s.ensures.turned)))
 
-pub returns : goal.returns
-returns g c = rw (to_z-of_z c.ranges.first_fd, to_z-of_z c.ranges.second_fd) at (compares _ _ _ c.loop-left.invariant.7.reached)
+pub returns-after-loop : goal.returns-after-loop
+returns-after-loop g c = rw (to_z-of_z c.ranges.first_fd, to_z-of_z c.ranges.second_fd) at (compares _ _ _ c.loop.invariant.5)

@@ -1,14 +1,13 @@
--- The number says whether a return was pending, and the words are the pool without it.
-use mathlib.Core.Bool.{true, false}
-use Rattle.pool.proofs.MarkLaws.{gives_back}
+-- Where the bit of the surface is among the pending ones, it is cleared, and else every word stays.
+use Rattle.pool.proofs.Bits.{bit_clear}
+use Rattle.pool.proofs.MarkLaws.{gives_none, gives_back}
 use Rattle.pool.proofs.give_back.Goals as goal
 
-pub returns-then-take_pending : goal.returns-then-take_pending
-returns-then-take_pending c =
-    let h = rw c.if-take_pending.true at c.take_pending.ensures in
-    gives_back c.args.pool.now c.args.surface true c.take_pending.new.pool h
+pub returns-then-pool-returned-eq0 : goal.returns-then-pool-returned-eq0
+returns-then-pool-returned-eq0 c =
+    gives_none c.args.pool.now c.args.surface c.bit_of-returned.result (rw c.surfaces_in.ensures at c.bit_of-returned.ensures) c.if-pool-returned-eq0.true
 
-pub returns-else-take_pending : goal.returns-else-take_pending
-returns-else-take_pending c =
-    let h = rw c.if-take_pending.false at c.take_pending.ensures in
-    gives_back c.args.pool.now c.args.surface false c.take_pending.new.pool h
+pub returns : goal.returns
+returns c =
+    gives_back c.args.pool.now c.args.surface c.bit_of-returned.result (rw c.surfaces_in.ensures at c.bit_of-returned.ensures) c.told-pool _
+    (λ i. bit_clear i _ c.bit_of-returned.result (c.fits-pool 2) c.bit_of-returned.type_inv) c.if-pool-returned-eq0.false

@@ -2,8 +2,8 @@
 use Rattle.show.proofs.Turning.{fed_some, fed_unread}
 use Rattle.show.proofs.fed.Goals as goal
 
-pub returns-then-held-now : goal.returns-then-held-now
-returns-then-held-now g c = fed_some c.args.held c.if-held-now.true
+pub returns-in-Ok : goal.returns-in-Ok
+returns-in-Ok g c = rw c.in-Ok.is (fed_some c.args.t.held c.in-Ok.held c.if-t-held.true)
 
-pub returns-then-r : goal.returns-then-r
-returns-then-r g c = fed_unread c.args.held c.if-held-now.false c.if-r.true c.stopped.ensures
+pub returns-in-Err : goal.returns-in-Err
+returns-in-Err g c = rw c.in-Err.is (fed_unread c.args.t.held)

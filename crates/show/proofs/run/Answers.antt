@@ -1,21 +1,20 @@
--- Some turns led here from the first reply, and the turns that are left fall.
-use mathlib.Core.Path.{refl}
-use native.Mathlib.Omega.{arith}
-use borrow.Author.Rules.{rules}
-use Rattle.stream.proofs.Running.{fewer, begins, one_turn}
+-- Some turns led here from the first reply, and one turn more does where it ends.
+use Rattle.std.proofs.Common.{arith, refl, ap, rules}
+use Rattle.stream.proofs.Running.{no_turn, next_turn}
+use Rattle.filter.specs.Next.{is_more}
 use Rattle.show.specs.Turns.{Starts, Turns}
 use Rattle.show.proofs.Running.{shows}
 use Rattle.show.proofs.run.Goals as goal
 
-pub loop-left-init : goal.loop-left-init
-loop-left-init g c = (omega arith, refl, refl, begins Starts Turns _ (refl, refl, refl, c.opening.ensures))
+pub loop-init : goal.loop-init
+loop-init g c = (omega arith, refl, no_turn Starts Turns _ (refl, refl, refl, c.opening.ensures))
 
-pub loop-left-smaller : goal.loop-left-smaller
-loop-left-smaller g c = omega (arith, fewer c.turns_left-left.ensures)
+pub loop-preserved : goal.loop-preserved
+loop-preserved g c =
+    (c.turn-t.ensures.held_in_bounds_2, search rules, next_turn Starts Turns _ _ c.loop.invariant.2 (ap is_more c.loop.invariant.1, c.turn-t.ensures.turned))
 
-pub loop-left-preserved : goal.loop-left-preserved
-loop-left-preserved g c =
-    (search rules, search rules, search rules, one_turn Starts Turns _ _ c.loop-left.invariant.3 (omega arith) c.turns_left-left.ensures (λ m. (m, c.turn-t.ensures.turned)))
+pub returns-then-ne : goal.returns-then-ne
+returns-then-ne g c = shows _ (next_turn Starts Turns _ _ c.loop.invariant.2 (ap is_more c.loop.invariant.1, c.turn-t.ensures.turned))
 
-pub returns : goal.returns
-returns g c = shows _ c.loop-left.invariant.3.reached
+pub returns-after-loop : goal.returns-after-loop
+returns-after-loop g c = shows _ c.loop.invariant.2

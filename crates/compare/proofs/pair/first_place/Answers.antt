@@ -1,19 +1,15 @@
--- The bytes in front of i are equal, so the first place that differs is i and that of the bytes behind.
-use native.Mathlib.Omega.{arith}
-use Rattle.compare.proofs.Places.{place_on, place_stop, place_end}
+-- The first pair of bytes that differ, or behind all of them.
+use mathlib.Core.Path.{◌≡◌, ◌∙◌}
+use borrow.Author.Rules.{rules}
+use borrow.Author.Tests.{tests}
+use Rattle.std.specs.List.{zip, position}
+use Rattle.std.proofs.lemmas.Iterator.{YieldsList-from_slice, YieldsList-from_zip}
+use Rattle.std.proofs.lemmas.Iterator.Search.{position_from_yields_List}
+use Rattle.compare.proofs.Places.{unequal, place_at}
 use Rattle.compare.proofs.pair.first_place.Goals as goal
-
-pub returns-then-a-i : goal.returns-then-a-i
-returns-then-a-i c =
-    let z = place_stop c.args.a.now c.args.b.now c.loop-i.i (omega arith) (omega arith) c.if-a-i.true in
-    omega (arith, c.loop-i.invariant.2, z)
-
-pub loop-i-preserved : goal.loop-i-preserved
-loop-i-preserved c =
-    let t = place_on c.args.a.now c.args.b.now c.loop-i.i (omega arith) (omega arith) c.if-a-i.false in
-    (omega arith, c.loop-i.invariant.1, omega (arith, c.loop-i.invariant.2, t))
 
 pub returns : goal.returns
 returns c =
-    let z = place_end c.args.a.now c.args.b.now c.loop-i.i (omega (arith, c.loop-i.invariant.1)) in
-    omega (arith, c.loop-i.invariant.2, z)
+    let e : c.position.result ≡ position unequal (zip c.args.a.now c.args.b.now) =
+    position_from_yields_List unequal c.position.new.self _ c.position.result c.position.ensures.ran (YieldsList-from_zip (YieldsList-from_slice c.args.a.now cc) (YieldsList-from_slice c.args.b.now cc)) (λ x b q k. search (rules, tests)) in
+    c.unwrap_or.ensures ∙ search (rules, place_at c.args.a.now c.args.b.now c.position.result e)

@@ -7,4 +7,4 @@ use Rattle.derivation.proofs.nal.is_irap.Goals as goal
 
 pub returns : goal.returns
 unfolding class_of
-returns c = c.class_irap.ensures ∙ by_class irap irap_in tt c.args.t c.ranges.t.fits c.nal_class.ensures.class
+returns c = c.is_irap.ensures ∙ by_class irap irap_in tt c.args.t c.ranges.t.fits c.nal_class.ensures.class

@@ -7,4 +7,4 @@ use Rattle.derivation.proofs.nal.is_taken.Goals as goal
 
 pub returns : goal.returns
 unfolding class_of
-returns c = c.class_taken.ensures ∙ by_class taken taken_in tt c.args.t c.ranges.t.fits c.nal_class.ensures.class
+returns c = c.is_taken.ensures ∙ by_class taken taken_in tt c.args.t c.ranges.t.fits c.nal_class.ensures.class

@@ -10,6 +10,6 @@ unfolding class_of
 returns c =
     let e = c.nal_class-class.ensures.class in
     rw (
-      c.class_irap.ensures ∙ by_class irap irap_in tt c.args.t c.ranges.t.fits e,
-      c.class_cra.ensures ∙ by_class cra cra_in tt c.args.t c.ranges.t.fits e,
+      c.is_irap.ensures ∙ by_class irap irap_in tt c.args.t c.ranges.t.fits e,
+      c.is_cra.ensures ∙ by_class cra cra_in tt c.args.t c.ranges.t.fits e,
     )

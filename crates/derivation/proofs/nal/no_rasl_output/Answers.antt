@@ -14,4 +14,4 @@ anew false t h = bytes_agree (λ (n : ℕ). no_rasl_in (class_of n) false) (λ (
 
 pub returns : goal.returns
 returns c =
-    rw (c.class_no_rasl.ensures, c.nal_class.ensures.class, anew c.args.at_start c.args.t c.ranges.t.fits)
+    rw (c.is_no_rasl.ensures, c.nal_class.ensures.class, anew c.args.at_start c.args.t c.ranges.t.fits)

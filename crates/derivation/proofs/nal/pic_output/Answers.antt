@@ -8,4 +8,4 @@ use Rattle.derivation.proofs.nal.pic_output.Goals as goal
 pub returns : goal.returns
 unfolding class_of
 returns c =
-    rw (c.class_rasl.ensures ∙ by_class rasl rasl_in tt c.args.t c.ranges.t.fits c.nal_class.ensures.class)
+    rw (c.is_rasl.ensures ∙ by_class rasl rasl_in tt c.args.t c.ranges.t.fits c.nal_class.ensures.class)

@@ -15,4 +15,4 @@ valid false t h = refl
 
 pub returns : goal.returns
 returns c =
-    rw (c.class_prev.ensures, c.nal_class.ensures.class, c.non_reference.ensures) (valid (eqb c.args.tid 0) c.args.t c.ranges.t.fits)
+    rw (c.may_be_prev.ensures, c.nal_class.ensures.class, c.non_reference.ensures) (valid (eqb c.args.tid 0) c.args.t c.ranges.t.fits)

@@ -13,7 +13,7 @@ use Rattle.paper.specs.Ranges.{begin_ranges}
 use Rattle.paper.specs.Step.{begin_of, held_by}
 use Rattle.session.proofs.Ways.{begin_1, begin_3, begin_5, begin_8, begin_7}
 use Rattle.session.proofs.Fronts.{is_now}
-use Rattle.session.proofs.Saying.{does_refuse, as_decided}
+use Rattle.session.proofs.Saying.{rejects, tries_as}
 use Rattle.session.proofs.Targets.{read_as, fields_as}
 use Rattle.session.specs.View.{memory, session_in, front_in}
 use Rattle.session.specs.Target.{fields_with, fields_at}
@@ -26,9 +26,9 @@ returns-then-not-is_configured c =
     session_in (memory c.args.front.now c.args.sets.now c.args.store.now)
     in
     let fields : Fields =
-    fields_at c.args.target c.args.msg.now
+    fields_at c.args.surface c.args.msg.now
     in
-    does_refuse (begin_1 (session) (fields) (ap not (sym c.is_configured.ensures) ∙ c.if-not-is_configured.true-raw)) c.refuse.ensures
+    rejects (begin_1 (session) (fields) (ap not (sym c.is_configured.ensures ∙ c.if-not-is_configured.true)))
 
 pub returns-then-is_busy : goal.returns-then-is_busy
 unfolding front_in
@@ -37,12 +37,12 @@ returns-then-is_busy c =
     session_in (memory c.args.front.now c.args.sets.now c.args.store.now)
     in
     let fields : Fields =
-    fields_at c.args.target c.args.msg.now
+    fields_at c.args.surface c.args.msg.now
     in
     let set_up : not (session).configured ≡ false =
-    ap not (sym c.is_configured.ensures) ∙ c.if-not-is_configured.false-raw
+    ap not (sym c.is_configured.ensures ∙ c.if-not-is_configured.false)
     in
-    does_refuse (begin_3 (session) (fields) (set_up) (is_now c.args.front.now ∙ sym c.is_busy.ensures ∙ c.if-is_busy.true)) c.refuse-then-is_busy.ensures
+    rejects (begin_3 (session) (fields) (set_up) (is_now c.args.front.now ∙ sym c.is_busy.ensures ∙ c.if-is_busy.true))
 
 pub returns-then-not-begin_ranges : goal.returns-then-not-begin_ranges
 unfolding front_in
@@ -51,21 +51,21 @@ returns-then-not-begin_ranges c =
     session_in (memory c.args.front.now c.args.sets.now c.args.store.now)
     in
     let fields : Fields =
-    fields_at c.args.target c.args.msg.now
+    fields_at c.args.surface c.args.msg.now
     in
     let set_up : not (session).configured ≡ false =
-    ap not (sym c.is_configured.ensures) ∙ c.if-not-is_configured.false-raw
+    ap not (sym c.is_configured.ensures ∙ c.if-not-is_configured.false)
     in
     let idle : is_current (session).current ≡ false =
     is_now c.args.front.now ∙ sym c.is_busy.ensures ∙ c.if-is_busy.false
     in
     let read : fields_with c.begin_fields-h.result.surface c.args.msg.now ≡ fields =
-    fields_as c.args.target c.args.msg.now c.begin_fields-h.ensures
+    fields_as c.args.surface c.args.msg.now c.begin_fields-h.ensures
     in
     let ranges : c.begin_ranges.result ≡ begin_ranges (modulus (session).limits) (fields) =
     c.begin_ranges.ensures ∙ (λ i. begin_ranges (modulus (c.limits_in-l.ensures i)) (read i))
     in
-    does_refuse (begin_5 (session) (fields) (set_up) (idle) (ap not (sym (ranges)) ∙ c.if-not-begin_ranges.true-raw)) c.refuse-then-not-begin_ranges.ensures
+    rejects (begin_5 (session) (fields) (set_up) (idle) (ap not (sym (ranges) ∙ c.if-not-begin_ranges.true)))
 
 pub returns-then-next_serial-eq-MISSING : goal.returns-then-next_serial-eq-MISSING
 unfolding front_in
@@ -74,27 +74,27 @@ returns-then-next_serial-eq-MISSING c =
     session_in (memory c.args.front.now c.args.sets.now c.args.store.now)
     in
     let fields : Fields =
-    fields_at c.args.target c.args.msg.now
+    fields_at c.args.surface c.args.msg.now
     in
     let set_up : not (session).configured ≡ false =
-    ap not (sym c.is_configured.ensures) ∙ c.if-not-is_configured.false-raw
+    ap not (sym c.is_configured.ensures ∙ c.if-not-is_configured.false)
     in
     let idle : is_current (session).current ≡ false =
     is_now c.args.front.now ∙ sym c.is_busy.ensures ∙ c.if-is_busy.false
     in
     let read : fields_with c.begin_fields-h.result.surface c.args.msg.now ≡ fields =
-    fields_as c.args.target c.args.msg.now c.begin_fields-h.ensures
+    fields_as c.args.surface c.args.msg.now c.begin_fields-h.ensures
     in
     let ranges : c.begin_ranges.result ≡ begin_ranges (modulus (session).limits) (fields) =
     c.begin_ranges.ensures ∙ (λ i. begin_ranges (modulus (c.limits_in-l.ensures i)) (read i))
     in
     let within : not (begin_ranges (modulus (session).limits) (fields)) ≡ false =
-    ap not (sym (ranges)) ∙ c.if-not-begin_ranges.false-raw
+    ap not (sym (ranges) ∙ c.if-not-begin_ranges.false)
     in
     let last : eqb (session).next missing.0 ≡ eqb c.next_serial.result.0 missing.0 =
     ap (λ (n : Serial). eqb n.0 missing.0) (sym c.next_serial.ensures)
     in
-    does_refuse (begin_8 (session) (fields) (set_up) (idle) (within) (last ∙ eq-eqb _ _ c.if-next_serial-eq-MISSING.true)) c.refuse-then-next_serial-eq-MISSING.ensures
+    rejects (begin_8 (session) (fields) (set_up) (idle) (within) (last ∙ eq-eqb _ _ c.if-next_serial-eq-MISSING.true))
 
 pub returns-then-holds_surface : goal.returns-then-holds_surface
 unfolding fields_with front_in
@@ -103,22 +103,22 @@ returns-then-holds_surface c =
     session_in (memory c.args.front.now c.args.sets.now c.args.store.now)
     in
     let fields : Fields =
-    fields_at c.args.target c.args.msg.now
+    fields_at c.args.surface c.args.msg.now
     in
     let set_up : not (session).configured ≡ false =
-    ap not (sym c.is_configured.ensures) ∙ c.if-not-is_configured.false-raw
+    ap not (sym c.is_configured.ensures ∙ c.if-not-is_configured.false)
     in
     let idle : is_current (session).current ≡ false =
     is_now c.args.front.now ∙ sym c.is_busy.ensures ∙ c.if-is_busy.false
     in
     let read : fields_with c.begin_fields-h.result.surface c.args.msg.now ≡ fields =
-    fields_as c.args.target c.args.msg.now c.begin_fields-h.ensures
+    fields_as c.args.surface c.args.msg.now c.begin_fields-h.ensures
     in
     let ranges : c.begin_ranges.result ≡ begin_ranges (modulus (session).limits) (fields) =
     c.begin_ranges.ensures ∙ (λ i. begin_ranges (modulus (c.limits_in-l.ensures i)) (read i))
     in
     let within : not (begin_ranges (modulus (session).limits) (fields)) ≡ false =
-    ap not (sym (ranges)) ∙ c.if-not-begin_ranges.false-raw
+    ap not (sym (ranges) ∙ c.if-not-begin_ranges.false)
     in
     let last : eqb (session).next missing.0 ≡ eqb c.next_serial.result.0 missing.0 =
     ap (λ (n : Serial). eqb n.0 missing.0) (sym c.next_serial.ensures)
@@ -129,7 +129,7 @@ returns-then-holds_surface c =
     let held : c.holds_surface.result ≡ any_b (held_by (fields).surface) (session).store =
     c.holds_surface.ensures ∙ ap (λ (f : Fields). any_b (held_by f.surface) (session).store) (read)
     in
-    does_refuse (begin_7 (session) (fields) (set_up) (idle) (within) (unspent) (sym (held) ∙ c.if-holds_surface.true)) c.refuse-then-holds_surface.ensures
+    rejects (begin_7 (session) (fields) (set_up) (idle) (within) (unspent) (sym (held) ∙ c.if-holds_surface.true))
 
 pub begin_inside-requires : goal.begin_inside-requires
 unfolding front_in
@@ -138,22 +138,22 @@ begin_inside-requires c =
     session_in (memory c.args.front.now c.args.sets.now c.args.store.now)
     in
     let fields : Fields =
-    fields_at c.args.target c.args.msg.now
+    fields_at c.args.surface c.args.msg.now
     in
     let set_up : not (session).configured ≡ false =
-    ap not (sym c.is_configured.ensures) ∙ c.if-not-is_configured.false-raw
+    ap not (sym c.is_configured.ensures ∙ c.if-not-is_configured.false)
     in
     let idle : is_current (session).current ≡ false =
     is_now c.args.front.now ∙ sym c.is_busy.ensures ∙ c.if-is_busy.false
     in
     let read : fields_with c.begin_fields-h.result.surface c.args.msg.now ≡ fields =
-    fields_as c.args.target c.args.msg.now c.begin_fields-h.ensures
+    fields_as c.args.surface c.args.msg.now c.begin_fields-h.ensures
     in
     let ranges : c.begin_ranges.result ≡ begin_ranges (modulus (session).limits) (fields) =
     c.begin_ranges.ensures ∙ (λ i. begin_ranges (modulus (c.limits_in-l.ensures i)) (read i))
     in
     let within : not (begin_ranges (modulus (session).limits) (fields)) ≡ false =
-    ap not (sym (ranges)) ∙ c.if-not-begin_ranges.false-raw
+    ap not (sym (ranges) ∙ c.if-not-begin_ranges.false)
     in
     let last : eqb (session).next missing.0 ≡ eqb c.next_serial.result.0 missing.0 =
     ap (λ (n : Serial). eqb n.0 missing.0) (sym c.next_serial.ensures)
@@ -163,7 +163,7 @@ begin_inside-requires c =
     in (
       record {
         limits = c.limits_in-l.ensures;
-        fields = read_as c.args.target c.args.msg.now c.begin_fields-h.ensures;
+        fields = read_as c.args.surface c.args.msg.now c.begin_fields-h.ensures;
         configured = not-false _ (set_up);
         idle = idle;
         ranges = ap (begin_ranges (modulus (session).limits)) (read) ∙ not-false _ (within);
@@ -179,9 +179,9 @@ returns c =
     session_in (memory c.args.front.now c.args.sets.now c.args.store.now)
     in
     let fields : Fields =
-    fields_at c.args.target c.args.msg.now
+    fields_at c.args.surface c.args.msg.now
     in
     let read : fields_with c.begin_fields-h.result.surface c.args.msg.now ≡ fields =
-    fields_as c.args.target c.args.msg.now c.begin_fields-h.ensures
+    fields_as c.args.surface c.args.msg.now c.begin_fields-h.ensures
     in
-    as_decided (ap (begin_of (session)) (sym (read))) c.begin_inside.ensures
+    tries_as (ap (begin_of (session)) (sym (read))) c.begin_inside.ensures

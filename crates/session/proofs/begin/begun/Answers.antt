@@ -12,8 +12,8 @@ use Rattle.session.specs.Starts.{current_from, told_from}
 use Rattle.session.proofs.Begins.{few_members, tells, begun_does}
 use Rattle.session.proofs.begin.begun.Goals as goal
 
-pub put_begun-a-requires : goal.put_begun-a-requires
-put_begun-a-requires c =
+pub put_begun-len-requires : goal.put_begun-len-requires
+put_begun-len-requires c =
     (few_members c.derive_and_mark_rps-d.ensures.sets, (tail_good c.update_dpb_before_decoding-m.ensures.tail, c.requires.1))
 
 pub returns : goal.returns
@@ -21,9 +21,9 @@ unfolding front_in
 returns c =
     let t =
     tells c.args.front.now c.derive_and_mark_rps-d.result.first c.derive_and_mark_rps-d.result.second (stored_in c.derive_and_mark_rps-d.result.store) c.args.store.now c.args.t c.derive_and_mark_rps-d.result.sizes c.requires.0.placed.passed.limits c.is_ended.ensures
-    (c.told_of.ensures ∙ ap (λ (k : Serial). told_from k.0 c.args.t) c.next_serial-next.ensures) c.update_dpb_before_decoding-m.ensures c.put_begun-a.ensures
+    (c.told_of.ensures ∙ ap (λ (k : Serial). told_from k.0 c.args.t) c.next_serial-next.ensures) c.update_dpb_before_decoding-m.ensures c.put_begun-len.ensures
     in
-    begun_does (memory c.args.front.now c.args.sets.now c.args.store.now) c.args.msg.now c.args.h c.args.t c.args.pocs.now c.args.hows.now c.requires.0 c.derive_and_mark_rps-d.result c.derive_and_mark_rps-d.ensures t
+    begun_does (memory c.args.front.now c.args.sets.now c.args.store.now) c.args.msg.now c.args.h c.args.t c.args.wishes.now c.requires.0 c.derive_and_mark_rps-d.result c.derive_and_mark_rps-d.ensures t
     c.put_members.new.sets c.put_members.ensures.long c.put_members.ensures.members c.put_members.ensures.behind c.put_begun.ensures.front c.put_begun.ensures.words
     (c.current_of.ensures ∙ ap (λ (k : Serial). current_from k.0 c.args.h c.args.t) c.next_serial-next.ensures) c.refs_of.ensures
     (c.next_after.ensures ∙ ap (λ (k : Serial). cond (eqb k.0 4294967295) 0 (k.0 + 1)) c.next_serial-next.ensures)

@@ -3,6 +3,6 @@ use mathlib.Core.Path.{sym, ◌∙◌}
 use Rattle.session.proofs.Saying.{abandon_4}
 use Rattle.session.proofs.calls.abandon.Goals as goal
 
-pub returns-in-Idle : goal.returns-in-Idle
-returns-in-Idle c =
-    λ xs t. abandon_4 c.before.args.front.now xs t (sym c.now_in.ensures ∙ c.in-Idle.is) c.refuse.ensures
+pub returns-in-None : goal.returns-in-None
+returns-in-None c =
+    λ xs t. abandon_4 c.before.args.front.now xs t (sym c.now_in.ensures ∙ c.in-None.is)

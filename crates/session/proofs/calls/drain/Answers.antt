@@ -7,7 +7,7 @@ use Rattle.session.proofs.calls.drain.Goals as goal
 
 pub returns-then-is_stuck : goal.returns-then-is_stuck
 returns-then-is_stuck c =
-    λ xs. drain_9 c.before.before.args.front.now xs c.before.before.args.store.now (sym (c.is_stuck.ensures xs) ∙ c.if-is_stuck.true) c.refuse.ensures
+    λ xs. drain_9 c.before.before.args.front.now xs c.before.before.args.store.now (sym (c.is_stuck.ensures xs) ∙ c.if-is_stuck.true)
 
 pub drain_as-requires : goal.drain_as-requires
 drain_as-requires c =

@@ -3,6 +3,6 @@ use mathlib.Core.Path.{sym, ◌∙◌}
 use Rattle.session.proofs.Saying.{finish_4}
 use Rattle.session.proofs.calls.finish.Goals as goal
 
-pub returns-in-Idle : goal.returns-in-Idle
-returns-in-Idle c =
-    λ xs. finish_4 c.before.args.front.now xs c.before.args.store.now (sym c.now_in.ensures ∙ c.in-Idle.is) c.refuse.ensures
+pub returns-in-None : goal.returns-in-None
+returns-in-None c =
+    λ xs. finish_4 c.before.args.front.now xs c.before.args.store.now (sym c.now_in.ensures ∙ c.in-None.is)

@@ -1,15 +1,22 @@
--- `lists_at`: the number is the paper's; a record that is refused writes it, and one that is accepted writes the two
+-- `lists_at`: the number is the paper's; a record that is refused gives it, and one that is accepted writes the two
 -- lists.
+use mathlib.Core.Path.{sym}
+use Rattle.std.proofs.lemmas.Result.{err_from_is_err_and}
 use Rattle.paper.specs.Records.{slice_of}
 use Rattle.derivation.specs.Lists.{refs_in}
-use Rattle.session.proofs.Slicing.{fine_is, answers_no, answers_lists}
+use Rattle.session.proofs.Slicing.{gives_no, gives_lists}
 use Rattle.session.proofs.lists.lists_at.Goals as goal
 
-pub returns-in-No : goal.returns-in-No
-returns-in-No c =
-    λ s e. answers_no s (refs_in c.args.sets.now c.args.refs) e c.args.c (slice_of c.args.msg.now) c.args.reply.now _ c.judged.result c.in-No.why c.in-No.is (c.judged.ensures c.args.c.serial) c.refuse.ensures
+pub listed-requires : goal.listed-requires
+listed-requires c =
+    (c.requires.0, c.slice_fields-h.ensures, sym (c.in_ok-judged.ensures c.args.c.serial), c.requires.1)
 
-pub returns-in-Fine : goal.returns-in-Fine
-returns-in-Fine c =
-    let z = fine_is c.judged.result _ c.in-Fine.is (c.judged.ensures c.args.c.serial) in
-    λ s e. answers_lists s (refs_in c.args.sets.now c.args.refs) e c.args.c (slice_of c.args.msg.now) c.args.reply.now _ z c.listed.ensures
+pub returns : goal.returns
+returns c =
+    λ s e. gives_lists s (refs_in c.args.sets.now c.args.refs) e c.args.c (slice_of c.args.msg.now) c.args.reply.now _ (sym (c.in_ok-judged.ensures c.args.c.serial)) c.listed.ensures
+
+pub returns-in_err-judged : goal.returns-in_err-judged
+returns-in_err-judged c =
+    λ s e.
+    let p = err_from_is_err_and c.from_residual.result c.from_residual.ensures.1 in
+    rw (p.1, p.2) (gives_no s (refs_in c.args.sets.now c.args.refs) e c.args.c (slice_of c.args.msg.now) c.args.reply.now c.args.reply.now c.in_err-judged.field-0.0 (c.in_err-judged.ensures c.args.c.serial))

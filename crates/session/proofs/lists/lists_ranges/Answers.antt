@@ -21,4 +21,4 @@ ranges_are h f spare x y p s d g = rw (d, g, tested_is h.ask0 _ p.ask0, tested_i
 
 pub returns : goal.returns
 returns c =
-    λ f p. ranges_are c.args.h f c.spare3.result c.active_ok.result c.active_ok-2.result p c.spare3.ensures c.active_ok.ensures c.active_ok-2.ensures
+    λ f p. ranges_are c.args.h f c.spare.result c.active_ok.result c.active_ok-2.result p c.spare.ensures c.active_ok.ensures c.active_ok-2.ensures

@@ -1,10 +1,11 @@
 -- The front is in order part by part, and the store is in normal form.
+use native.Mathlib.Omega.{arith}
 use Rattle.session.proofs.Layouts.{memory_told}
 use Rattle.session.proofs.normal.is_normal.Goals as goal
 
 pub returns : goal.returns
 returns c =
-    memory_told c.args.front.now c.args.sets.now c.args.store.now c.count_front.ensures.1 c.count_sets.ensures.1
+    memory_told c.args.front.now c.args.sets.now c.args.store.now (omega arith) (omega arith)
     c.flags_laid.ensures
     c.limits_laid.ensures
     c.prev_laid.ensures

@@ -35,4 +35,4 @@ returns c =
     let e4 = run_on c.args.d.now 6 (P ++ sizes_bytes c.args.x ++ M) T e3 c.put_tail-len.ensures in
     let m : c.put_members-e.result ≤ 84 = omega (arith, members_room c.args.x c.args.first c.args.second c.requires.0, c.put_told-a.ensures.0, c.put_sizes-b.ensures.0, c.put_members-e.ensures.0) in
     let n : c.put_tail-len.result ≤ 415 = omega (arith, c.put_tail-len.ensures.0, tail_room c.args.y c.requires.1.0) in
-    framed_last c.args.d.now (P ++ sizes_bytes c.args.x ++ M ++ T) (reply_to begin_kind) e4 (omega (arith, n, c.requires.1.1.room)) c.put_head.ensures
+    framed_last c.args.d.now (P ++ sizes_bytes c.args.x ++ M ++ T) (reply_to begin_kind) e4 (omega (arith, n, c.requires.1.1.room)) (rw c.reply.ensures at c.put_head.ensures)

@@ -6,4 +6,4 @@ use Rattle.session.proofs.replies.refuse.Goals as goal
 
 pub returns : goal.returns
 returns c =
-    refused_says c.args.kind (number_of c.args.why) c.args.reply.now c.number-n.ensures c.put_head-len.ensures (omega (arith, c.requires.room))
+    refused_says c.args.kind (number_of c.args.why) c.args.reply.now c.from-n.ensures c.put_head-len.ensures (omega (arith, c.requires.room))

@@ -1,22 +1,17 @@
--- Each turn writes one number behind a comma.
+-- Each turn writes one item behind a comma.
 use mathlib.Core.Path.{refl, sym, ap, ◌∙◌}
-use borrow.Author.Rules.{rules}
+use Prim.Native.Nat.{ℕ, ◌+◌, ◌*◌}
 use native.Mathlib.Omega.{arith}
-use Rattle.paper.specs.Words.{flat}
-use Rattle.paper.specs.Ledger.{read_words}
-use Rattle.show.specs.Text.{spelled}
-use Rattle.show.specs.Lists.{behind_comma}
+use Rattle.show.specs.Items.{item_text}
 use Rattle.stream.proofs.Spelling.{◌then◌, retold, roomier, blank}
-use Rattle.show.proofs.Places.{words_one}
+use Rattle.show.proofs.Items.{none_more, one_more, step_on}
 use Rattle.show.proofs.lists.put_more.Goals as goal
 
 pub loop-i-init : goal.loop-i-init
-unfolding flat read_words
-loop-i-init c = (omega arith, omega arith, omega arith, omega arith, refl, blank _ _ _)
+loop-i-init c = (refl, retold (sym (none_more c.args.item c.args.reply.now c.args.from)) (blank _ _ _))
 
 pub loop-i-preserved : goal.loop-i-preserved
 loop-i-preserved c =
-    let f = spelled c.args.may_miss in
-    let next = retold (ap (behind_comma f) c.u32_at-x.ensures) c.put_next-end.ensures in
-    let more = retold (sym (words_one (behind_comma f) c.args.reply.now c.args.from c.loop-i.i)) (c.loop-i.invariant.5 then next) in
-    (search rules, search rules, search rules, search rules, c.put_next-end.auto.d ∙ c.loop-i.invariant.4, roomier (omega arith) more)
+    let one = retold (ap (λ (w : ℕ). item_text c.args.item c.args.reply.now (c.args.from + w * c.loop-i.i)) c.width.ensures.0) c.put-end.ensures in
+    let more = retold (sym (one_more c.args.item c.args.reply.now c.args.from c.loop-i.i)) (c.loop-i.invariant.1 then (c.put-behind.ensures then one)) in
+    (c.put-end.auto.d ∙ c.put-behind.auto.d ∙ c.loop-i.invariant.0, roomier (omega (arith, step_on c.args.item c.loop-i.i)) more)

@@ -10,15 +10,15 @@ use Rattle.store.proofs.operations.discard.Goals as goal
 pub clear-requires : goal.clear-requires
 clear-requires c = clear_room c.start.ensures (omega arith) (omega arith)
 
-pub clear-requires-in-Is : goal.clear-requires-in-Is
-clear-requires-in-Is c = clear_room c.drop_current.ensures (drops_one c.in-Is.c) (omega arith)
+pub clear-requires-in-Some : goal.clear-requires-in-Some
+clear-requires-in-Some c = clear_room c.drop_current.ensures (drops_one c.in-Some.c) (omega arith)
 
-pub returns-in-Idle : goal.returns-in-Idle
-returns-in-Idle c =
+pub returns-in-None : goal.returns-in-None
+returns-in-None c =
     let ps = front c.args.s.places c.args.s.len in
-    holds_then cleared c.start.ensures (ap (discarded ps) c.in-Idle.is ∙ discard_idle ps) c.clear.ensures
+    holds_then cleared c.start.ensures (ap (discarded ps) c.in-None.is ∙ discard_idle ps) c.clear.ensures
 
-pub returns-in-Is : goal.returns-in-Is
-returns-in-Is c =
+pub returns-in-Some : goal.returns-in-Some
+returns-in-Some c =
     let ps = front c.args.s.places c.args.s.len in
-    holds_then cleared c.drop_current.ensures (ap (discarded ps) c.in-Is.is ∙ discard_is ps c.in-Is.c) c.clear-in-Is.ensures
+    holds_then cleared c.drop_current.ensures (ap (discarded ps) c.in-Some.is ∙ discard_is ps c.in-Some.c) c.clear-in-Some.ensures

@@ -10,13 +10,9 @@ use Rattle.paper.specs.Calls.{stored}
 use Rattle.store.proofs.Kept.{put_more}
 use borrow.Author.Rules.{rules}
 use Rattle.store.proofs.operations.store_picture.Goals as goal
-use Rattle.store.proofs.operations.store_picture.Goals.{then-n-lt-CAPACITY, else-n-lt-CAPACITY}
 
 pub returns : goal.returns
 returns c =
-    let at_is : c.if-n-lt-CAPACITY.at ≡ min c.args.s.len 15 =
-    elim c.if-n-lt-CAPACITY.branch [ then-n-lt-CAPACITY w ↦ omega (arith, w.if-n-lt-CAPACITY.true, w.at-is) | else-n-lt-CAPACITY w ↦ omega (arith, w.if-n-lt-CAPACITY.false, w.at-is) ]
-    in
-    let l : length c.args.s.places ≡ 16 = c.well_formed.0.1.1.0.1.0.1 in
+    let l : length c.args.s.places ≡ 16 = omega arith in
     let f : SFits w32 c.args.c.poc = search rules in
-    rw (at_is, to_z-of_z w32 c.args.c.poc f) (omega arith, put_more c.args.s.places (min c.args.s.len 15) (stored c.args.c) (omega arith))
+    rw (c.min-at.ensures, to_z-of_z w32 c.args.c.poc f) (omega arith, put_more c.args.s.places (min c.args.s.len 15) (stored c.args.c) (omega arith))

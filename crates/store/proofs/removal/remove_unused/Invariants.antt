@@ -1,4 +1,3 @@
-use Prim.Native.Nat.{◌≤◌, ◌-◌}
 use mathlib.Core.Bool.{false}
 use mathlib.Core.List.{[]}
 use Rattle.paper.specs.Output.{in_use}
@@ -9,7 +8,4 @@ use Rattle.store.proofs.removal.remove_unused.Given as goal
 
 abbrev pub invariant-loop-i : goal.invariant-loop-i
 invariant-loop-i l =
-    (l.i ≤ l.n) × Kept in_use l.initial.places l.places l.k l.i × Pushed 17 no_surface (unused false) surface_of l.initial.places [] 0 l.released.items l.released.len l.i
-
-abbrev pub decreases-loop-i : goal.decreases-loop-i
-decreases-loop-i l = l.n - l.i
+    Kept in_use l.initial.places l.places l.k l.i × Pushed 17 no_surface (unused false) surface_of l.initial.places [] 0 l.released.items l.released.len l.i

@@ -11,12 +11,12 @@ use Rattle.store.proofs.removal.throw_waiting.Goals as goal
 use Rattle.store.proofs.removal.throw_waiting.Goals.{then-p, else-p}
 
 pub loop-i-init : goal.loop-i-init
-loop-i-init c = (omega arith, refl, refl, c.requires.0.tail.handed, c.requires.0.tail.released, pushed_none _ _ _ c.requires.0.tail.thrown)
+loop-i-init c = (refl, refl, c.requires.0.tail.handed, c.requires.0.tail.released, pushed_none _ _ _ c.requires.0.tail.thrown)
 
 pub loop-i-preserved : goal.loop-i-preserved
 loop-i-preserved c =
-    let e = ap (λ (ps : List Picture). place_at ps c.loop-i.i) c.loop-i.invariant.1 in
+    let e = ap (λ (ps : List Picture). place_at ps c.loop-i.i) c.loop-i.invariant.0 in
     elim c.if-p.branch [
-      | then-p w ↦ rw w.r-is (omega arith, c.loop-i.invariant.1, c.loop-i.invariant.2, c.loop-i.invariant.3, c.loop-i.invariant.4, pushed_take c.loop-i.invariant.5 _ (ap serial_of e) (omega (arith, c.requires.1, c.loop-i.invariant.5.few)) (ap waits (sym e) ∙ w.if-p.true))
-      | else-p w ↦ rw w.r-is (omega arith, c.loop-i.invariant.1, c.loop-i.invariant.2, c.loop-i.invariant.3, c.loop-i.invariant.4, pushed_pass c.loop-i.invariant.5 (ap waits (sym e) ∙ w.if-p.false))
+      | then-p w ↦ rw w.r-is (c.loop-i.invariant.0, c.loop-i.invariant.1, c.loop-i.invariant.2, c.loop-i.invariant.3, pushed_take c.loop-i.invariant.4 _ (ap serial_of e) (omega (arith, c.requires.1, c.loop-i.invariant.4.few)) (ap waits (sym e) ∙ w.if-p.true))
+      | else-p w ↦ rw w.r-is (c.loop-i.invariant.0, c.loop-i.invariant.1, c.loop-i.invariant.2, c.loop-i.invariant.3, pushed_pass c.loop-i.invariant.4 (ap waits (sym e) ∙ w.if-p.false))
     ]

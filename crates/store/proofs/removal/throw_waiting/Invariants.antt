@@ -1,4 +1,3 @@
-use Prim.Native.Nat.{◌≤◌, ◌-◌}
 use mathlib.Core.Path.{◌≡◌}
 use Rattle.derivation.specs.Pad.{Padded}
 use Rattle.derivation.specs.Lists.{blank_serial}
@@ -9,8 +8,5 @@ use Rattle.store.proofs.removal.throw_waiting.Given as goal
 
 abbrev pub invariant-loop-i : goal.invariant-loop-i
 invariant-loop-i l =
-    (l.i ≤ l.n) × (l.r.places ≡ l.initial.r.places) × (l.r.len ≡ l.initial.r.len) × Padded 16 no_shown l.r.handed l.r.shown (tail_in l.initial.r).handed × Padded 17 no_surface l.r.released l.r.freed (tail_in l.initial.r).released
+    (l.r.places ≡ l.initial.r.places) × (l.r.len ≡ l.initial.r.len) × Padded 16 no_shown l.r.handed l.r.shown (tail_in l.initial.r).handed × Padded 17 no_surface l.r.released l.r.freed (tail_in l.initial.r).released
     × Pushed 17 blank_serial waits serial_of l.initial.r.places (tail_in l.initial.r).thrown l.initial.r.dropped l.r.thrown l.r.dropped l.i
-
-abbrev pub decreases-loop-i : goal.decreases-loop-i
-decreases-loop-i l = l.n - l.i

@@ -24,6 +24,6 @@ pub returns : goal.returns
 returns c =
     let whole : length c.args.s.places ≡ 16 = c.well_formed.0.1.1.0.1.0.1 in
     let m : min c.args.s.len 16 ≡ c.args.s.len = omega (arith, c.requires) in
-    let h = runs_first (used_at c.settle_in-t.result.found c.args.hows.now 0 c.args.neg) (unused_at c.settle_in-t.result.found c.args.hows.now 0 c.args.neg) c.no_runs.ensures c.split-x.ensures.holds in
-    let le : c.split-z.result.used + c.split-z.result.rest ≤ 16 = omega (arith, c.requires, c.split-x.ensures.few.0, c.split-y.ensures.few.0, c.split-z.ensures.few.0) in
-    rw m (derives c.args.k c.args.pocs.now c.args.hows.now c.args.neg c.args.pos c.args.lt c.args.s.len c.args.s.places whole c.requires.0 c.requires.1 c.settle_in-t.ensures h c.split-y.ensures.holds c.split-z.ensures.holds le)
+    let h = runs_first (used_at c.settle_in-t.result.found c.args.wishes.now 0 c.args.neg) (unused_at c.settle_in-t.result.found c.args.wishes.now 0 c.args.neg) c.no_runs.ensures c.split-x.ensures.holds in
+    let le : c.split-z.result.used.len + c.split-z.result.rest.len ≤ 16 = omega (arith, c.requires, c.split-x.ensures.few.0, c.split-y.ensures.few.0, c.split-z.ensures.few.0) in
+    rw m (derives c.args.k c.args.wishes.now c.args.neg c.args.pos c.args.lt c.args.s.len c.args.s.places whole c.requires.0 c.requires.1 c.settle_in-t.ensures h c.split-y.ensures.holds c.split-z.ensures.holds le)

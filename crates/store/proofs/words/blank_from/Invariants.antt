@@ -3,6 +3,3 @@ use Rattle.store.proofs.words.blank_from.Given as goal
 
 abbrev pub invariant-loop-i : goal.invariant-loop-i
 invariant-loop-i l = Blanks l.initial.store l.store l.k l.n l.i
-
-abbrev pub decreases-loop-i : goal.decreases-loop-i
-decreases-loop-i l = l.i

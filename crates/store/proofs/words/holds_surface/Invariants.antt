@@ -1,4 +1,3 @@
-use Prim.Native.Nat.{◌≤◌, ◌-◌}
 use mathlib.Core.Bool.{false}
 use mathlib.Core.Path.{◌≡◌}
 use Rattle.paper.specs.Words.{any_b}
@@ -7,7 +6,4 @@ use Rattle.store.specs.StoreWords.{pictures}
 use Rattle.store.proofs.words.holds_surface.Given as goal
 
 abbrev pub invariant-loop-i : goal.invariant-loop-i
-invariant-loop-i l = (l.i ≤ l.n) × (any_b (held_by l.x) (pictures l.store l.i) ≡ false)
-
-abbrev pub decreases-loop-i : goal.decreases-loop-i
-decreases-loop-i l = l.n - l.i
+invariant-loop-i l = any_b (held_by l.x) (pictures l.store l.i) ≡ false

@@ -13,4 +13,4 @@ returns c =
     let a = c.args in
     let u = c.used_places-n in
     let e : c.loop-i.i ≡ u.result = omega arith in
-    let h = rw e at c.loop-i.invariant.1 in record { few = (u.ensures.0, u.ensures.1); holds = loaded_all h ∙ ap (λ (n : ℕ). map (change_by a.x) (pictures a.store.now n)) u.ensures.0 }
+    let h = rw e at c.loop-i.invariant in record { few = (u.ensures.0, u.ensures.1); holds = loaded_all h ∙ ap (λ (n : ℕ). map (change_by a.x) (pictures a.store.now n)) u.ensures.0 }

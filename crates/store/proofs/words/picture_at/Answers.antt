@@ -9,5 +9,5 @@ use Rattle.store.proofs.words.picture_at.Goals as goal
 pub returns : goal.returns
 unfolding picture_at
 returns c =
-    let a : to_z w32 (of_z w32 c.signed-poc.result) ≡ c.signed-poc.result = to_z-of_z {w = w32} (record { sfits = c.signed-poc.type_inv }) in
-    rw (a, c.signed-poc.ensures, c.mark_of-mark.ensures, c.flag_of-waiting.ensures)
+    let a : to_z w32 (of_z w32 c.signed.result) ≡ c.signed.result = to_z-of_z {w = w32} (record { sfits = c.signed.type_inv }) in
+    rw (a, c.signed.ensures, c.mark_of.ensures, c.flag_of.ensures)

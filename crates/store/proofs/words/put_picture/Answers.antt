@@ -13,5 +13,5 @@ pub returns : goal.returns
 returns c =
     let f : SFits w32 c.args.p.poc = search rules in
     let b : c.bits.result ≡ of_z w32 c.args.p.poc = c.bits.ensures ∙ ap (of_z w32) (to_z-of_z w32 c.args.p.poc f) in
-    let h = puts_words c.args.store.now c.args.i c.args.p.serial.0 c.args.p.surface.0 (of_z w32 c.args.p.poc) (mark_word c.args.p.mark) (flag_word c.args.p.waiting) c.args.p.count (omega (arith, c.count_words.ensures.1)) c.requires (λ all. picture_spells c.args.p f) in
+    let h = puts_words c.args.store.now c.args.i c.args.p.serial.0 c.args.p.surface.0 (of_z w32 c.args.p.poc) (mark_word c.args.p.mark) (flag_word c.args.p.waiting) c.args.p.count (omega arith) c.requires (λ all. picture_spells c.args.p f) in
     rw (b, c.mark_word.ensures, c.flag_word.ensures) (rw (own_words c.args.p f) at h)

@@ -8,4 +8,4 @@ use Rattle.store.proofs.words.set_used.Goals as goal
 
 pub returns : goal.returns
 returns c =
-    let room : 97 ≤ length c.args.store.now = omega (arith, c.count_words.ensures.1) in record { pics = used_is c.args.store.now c.args.n room c.requires; normal = used_normal c.args.store.now c.args.n room c.requires }
+    let room : 97 ≤ length c.args.store.now = omega arith in record { pics = used_is c.args.store.now c.args.n room c.requires; normal = used_normal c.args.store.now c.args.n room c.requires }

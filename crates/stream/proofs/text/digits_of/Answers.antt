@@ -14,12 +14,6 @@ loop-rest-init c = record {
   all = rw (drop_of_length-le c.args.digits.now {i = 20} (omega arith)) (append-nil (digits 20 c.args.n));
 }
 
-pub overflow_sub-i : goal.overflow_sub-i
-overflow_sub-i c = c.loop-rest.invariant.some
-
-pub bounds-digits-i : goal.bounds-digits-i
-bounds-digits-i c = let h = c.loop-rest.invariant in omega arith
-
 pub loop-rest-preserved : goal.loop-rest-preserved
 loop-rest-preserved c =
     let l = c.loop-rest in
@@ -32,12 +26,6 @@ loop-rest-preserved c =
       room = one_place_less l.i l.rest h.room c.loop-rest-test.true;
       all = next_digit l.i l.rest l.digits c.loop-rest-test.true h.some (omega arith) ∙ h.all;
     }
-
-pub overflow_sub-i-2 : goal.overflow_sub-i-2
-overflow_sub-i-2 c = c.loop-rest.invariant.some
-
-pub bounds-digits-i-2 : goal.bounds-digits-i-2
-bounds-digits-i-2 c = let h = c.loop-rest.invariant in omega arith
 
 pub returns-clause-spelled : goal.returns-clause-spelled
 unfolding decimal

@@ -10,14 +10,11 @@ use Rattle.watch.specs.Events.{events_of}
 use Rattle.watch.specs.Book.{Good}
 use Rattle.watch.proofs.events.run.Given as goal
 
-abbrev pub invariant-loop-i : goal.invariant-loop-i
-invariant-loop-i l =
-    (l.i ≤ l.n)
-    × ((l.place ≤ l.at + shown_width * l.i)
+abbrev pub invariant-loop : goal.invariant-loop
+invariant-loop l =
+    (l.counter ≤ l.n)
+    × ((l.place ≤ l.at + shown_width * l.counter)
     × (Good l.lines
-    × ((tail_part (events_of l.st l.p (l.n - l.i) (drop l.place l.reply)) (view l.lines) ≡ tail_part (events_of l.st l.p l.n (drop l.at l.reply)) (view l.initial.lines))
-    × ((upon_all (events_of l.st l.p (l.n - l.i) (drop l.place l.reply)) (view l.lines) ≡ upon_all (events_of l.st l.p l.n (drop l.at l.reply)) (view l.initial.lines))
-    × (tail_blame (events_of l.st l.p (l.n - l.i) (drop l.place l.reply)) (view l.lines) ≡ tail_blame (events_of l.st l.p l.n (drop l.at l.reply)) (view l.initial.lines))))))
-
-abbrev pub decreases-loop-i : goal.decreases-loop-i
-decreases-loop-i l = l.n - l.i
+    × ((tail_part (events_of l.st l.p (l.n - l.counter) (drop l.place l.reply)) (view l.lines) ≡ tail_part (events_of l.st l.p l.n (drop l.at l.reply)) (view l.initial.lines))
+    × ((upon_all (events_of l.st l.p (l.n - l.counter) (drop l.place l.reply)) (view l.lines) ≡ upon_all (events_of l.st l.p l.n (drop l.at l.reply)) (view l.initial.lines))
+    × (tail_blame (events_of l.st l.p (l.n - l.counter) (drop l.place l.reply)) (view l.lines) ≡ tail_blame (events_of l.st l.p l.n (drop l.at l.reply)) (view l.initial.lines))))))

@@ -1,17 +1,15 @@
 -- The places built so far hold the lines walked over, changed.
-use native.Mathlib.Omega.{arith}
-use Prim.Native.Nat.{◌<◌}
-use lib.ListN.{length}
-use Rattle.derivation.proofs.Pad.{is_good}
-use Rattle.watch.proofs.Walks.{map_turn}
-use Rattle.watch.specs.Book.{view}
+use Rattle.derivation.proofs.Pad.{is_good, is_view}
+use Rattle.watch.proofs.Walks.{map_more}
+use Rattle.watch.specs.Book.{no_line, view}
 use Rattle.watch.specs.Walks.{changing}
 use Rattle.watch.proofs.held.change_all.Goals as goal
 
-pub push-t-requires : goal.push-t-requires
-push-t-requires c = record { good = is_good c.loop-i.invariant.1.1; len_bound = omega (arith, c.used_places-n.ensures.1) }
+pub push-t-requires-clause-good : goal.push-t-requires-clause-good
+push-t-requires-clause-good c = is_good c.loop-e.invariant
 
-pub loop-i-preserved : goal.loop-i-preserved
-loop-i-preserved c =
-    let lt : c.loop-i.i < length (view c.args.l) = omega (arith, c.used_places-n.ensures.0) in
-    (omega arith, map_turn (changing c.args.c) c.args.l c.loop-i.t c.push-t.result c.loop-i.i lt c.loop-i.invariant.1.1 (rw c.changed-f.ensures at c.push-t.ensures))
+pub loop-e-preserved : goal.loop-e-preserved
+loop-e-preserved c =
+    let lines = c.in_use-e-items.ensures.lines in
+    let lt = rw lines at c.loop-e-test.true in
+    rw (is_view c.loop-e.invariant, c.changed.ensures, lines, ← map_more (changing c.args.off) (view c.args.l) c.loop-e.e-index no_line lt) at c.push-t.ensures

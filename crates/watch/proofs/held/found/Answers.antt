@@ -1,12 +1,13 @@
 -- The first line that is found is the first of those that are kept.
 use mathlib.Core.Path.{◌∙◌, ap}
-use Rattle.paper.specs.Words.{keep}
+use Rattle.std.specs.Prelude.{Option}
 use Rattle.paper.specs.Blame.{first_line}
-use Rattle.watch.specs.Book.{view}
+use Rattle.paper.specs.declared.Line.{Line}
+use Rattle.watch.specs.Book.{view, current_in}
 use Rattle.watch.specs.Walks.{asking}
-use Rattle.watch.proofs.Walks.{first_taken}
+use Rattle.watch.proofs.Walks.{first_found}
 use Rattle.watch.proofs.held.found.Goals as goal
 
 pub returns : goal.returns
 returns c =
-    c.of_line.ensures ∙ ap (first_line c.args.other) c.find.ensures ∙ first_taken c.args.other (keep (asking c.args.q) (view c.args.l))
+    c.of_line.ensures ∙ ap (λ (x : Option Line). first_line c.args.other (current_in x)) c.find.ensures ∙ first_found c.args.other (asking c.args.q) (view c.args.l)

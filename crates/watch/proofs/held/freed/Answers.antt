@@ -1,33 +1,46 @@
 -- The places built so far hold what the filter keeps of the lines walked over.
 use native.Mathlib.Omega.{arith}
-use Prim.Native.Nat.{◌<◌, ◌≤◌}
-use lib.ListN.{length, length-take, take}
+use mathlib.Core.Path.{◌∙◌, sym}
+use lib.ListN.{length-take, take}
 use lib.Seq.{take_all}
 use Rattle.derivation.proofs.Pad.{is_good, is_view}
 use Rattle.paper.specs.Words.{keep}
 use Rattle.paper.specs.Ledger.{free}
-use Rattle.watch.proofs.Walks.{get, keep_more, keep_short}
+use Rattle.watch.proofs.Walks.{keep_hit_more, keep_miss_more, keep_short}
 use Rattle.watch.specs.Book.{no_line, view}
 use Rattle.watch.specs.Walks.{away}
 use Rattle.watch.proofs.held.freed.Goals as goal
+use Rattle.watch.proofs.held.freed.Goals.{then-stays, else-stays}
 
-pub loop-i-init : goal.loop-i-init
+pub loop-e-init : goal.loop-e-init
 unfolding keep
-loop-i-init c = (omega arith, c.none-t.ensures)
+loop-e-init c = c.none-t.ensures
 
-pub keep_away-t-requires : goal.keep_away-t-requires
-keep_away-t-requires c =
-    let e = keep_short (away c.args.x) (take c.loop-i.i (view c.args.l)) in
-    let m = length-take c.loop-i.i (view c.args.l) in record { good = is_good c.loop-i.invariant.1; len_bound = omega (arith, c.loop-i.invariant.1.long, c.used_places-n.ensures.1) }
+pub push-t-requires-clause-good : goal.push-t-requires-clause-good
+push-t-requires-clause-good c = is_good c.loop-e.invariant
 
-pub loop-i-preserved : goal.loop-i-preserved
-loop-i-preserved c =
-    let lt : c.loop-i.i < length (view c.args.l) = omega (arith, c.used_places-n.ensures.0) in
-    (omega arith, rw (is_view c.loop-i.invariant.1, get c.args.l c.loop-i.i lt, ← keep_more (away c.args.x) (view c.args.l) c.loop-i.i no_line lt) at c.keep_away-t.ensures)
+pub push-t-requires-clause-len_bound : goal.push-t-requires-clause-len_bound
+push-t-requires-clause-len_bound c =
+    let lt = rw c.in_use-e-items.ensures.lines at c.loop-e-test.true in
+    let k = keep_short (away c.args.x) (take c.loop-e.e-index (view c.args.l)) in
+    let m = length-take c.loop-e.e-index (view c.args.l) in
+    omega (arith, c.loop-e.invariant.long, c.in_use-e-items.ensures.few)
+
+pub loop-e-preserved : goal.loop-e-preserved
+loop-e-preserved c =
+    let lines = c.in_use-e-items.ensures.lines in
+    let lt = rw lines at c.loop-e-test.true in
+    let f = away c.args.x in
+    let v = view c.args.l in
+    let i = c.loop-e.e-index in
+    elim c.if-stays.branch [
+      | then-stays w ↦ let k = rw lines at (sym c.stays.ensures ∙ w.if-stays.true) in rw (w.t-is, keep_hit_more f v i no_line lt k, ← is_view c.loop-e.invariant) (rw lines at w.push-t.ensures)
+      | else-stays w ↦ let k = rw lines at (sym c.stays.ensures ∙ w.if-stays.false) in rw (w.t-is, keep_miss_more f v i no_line lt k) c.loop-e.invariant
+    ]
 
 pub returns : goal.returns
 unfolding free
 returns c =
     let v = view c.args.l in
-    let le : length v ≤ c.loop-i.i = omega (arith, c.used_places-n.ensures.0) in
-    rw (take_all c.loop-i.i v le) at c.loop-i.invariant.1
+    let le = rw c.in_use-e-items.ensures.lines at c.loop-e-test.false in
+    rw (take_all c.loop-e.e-index v le) at c.loop-e.invariant

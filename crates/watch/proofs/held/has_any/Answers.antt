@@ -1,14 +1,14 @@
--- There is one where the first is found.
-use mathlib.Core.Path.{◌∙◌, ap}
-use mathlib.Core.Bool.{not}
-use mathlib.Core.List.{List}
-use Rattle.paper.specs.Ledger.{none}
-use Rattle.paper.specs.declared.Line.{Line}
+-- `any` of std and the definition go over the lines alike.
+use mathlib.Core.Path.{◌∙◌}
+use Rattle.std.proofs.Common.{rules, tests}
+use Rattle.std.proofs.lemmas.Iterator.{YieldsList-from_slice}
+use Rattle.std.proofs.lemmas.Iterator.Search.{any_from_yields_List}
 use Rattle.watch.specs.Book.{view}
 use Rattle.watch.specs.Walks.{asking}
-use Rattle.watch.proofs.Walks.{found_any}
+use Rattle.watch.proofs.Walks.{any_is}
 use Rattle.watch.proofs.held.has_any.Goals as goal
 
 pub returns : goal.returns
 returns c =
-    ap not (c.is_idle.ensures ∙ ap (λ (H : List Line). none H) c.find.ensures) ∙ found_any (asking c.args.q) (view c.args.l)
+    any_from_yields_List (asking c.args.q) _ _ _ c.any.ensures.ran (YieldsList-from_slice (view c.args.l) cc) (λ x b q k. search (rules, tests))
+    ∙ any_is (asking c.args.q) (view c.args.l)

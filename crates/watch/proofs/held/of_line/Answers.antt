@@ -1,11 +1,11 @@
--- A slot is idle or has a line, and the definition says the same of both.
+-- A line is there or not, and the definition says the same of both.
 use Rattle.paper.specs.Blame.{first_line}
 use Rattle.watch.proofs.held.of_line.Goals as goal
 
-pub returns-in-Idle : goal.returns-in-Idle
+pub returns-in-None : goal.returns-in-None
 unfolding first_line
-returns-in-Idle c = rw c.in-Idle.is
+returns-in-None c = rw c.in-None.is
 
-pub returns-in-Is : goal.returns-in-Is
+pub returns-in-Some : goal.returns-in-Some
 unfolding first_line
-returns-in-Is c = rw c.in-Is.is
+returns-in-Some c = rw c.in-Some.is

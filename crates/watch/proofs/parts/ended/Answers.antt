@@ -6,8 +6,8 @@ use mathlib.Core.Path.{◌∙◌, sym}
 use Rattle.watch.proofs.Ways.{ends_14, ends_0}
 use Rattle.watch.proofs.parts.ended.Goals as goal
 
-pub returns-then-is_quiet : goal.returns-then-is_quiet
-returns-then-is_quiet c = ends_0 c.args.b (read_tail c.args.b.reading (drop rest_place c.args.reply.now)) c.requires (sym c.is_quiet.ensures ∙ c.if-is_quiet.true)
-
 pub returns : goal.returns
-returns c = ends_14 c.args.b (read_tail c.args.b.reading (drop rest_place c.args.reply.now)) (sym c.is_quiet.ensures ∙ c.if-is_quiet.false)
+returns c = ends_0 c.args.b (read_tail c.args.b.reading (drop rest_place c.args.reply.now)) c.requires (sym c.is_quiet.ensures ∙ c.if-not-is_quiet.false)
+
+pub returns-then-not-is_quiet : goal.returns-then-not-is_quiet
+returns-then-not-is_quiet c = ends_14 c.args.b (read_tail c.args.b.reading (drop rest_place c.args.reply.now)) (sym c.is_quiet.ensures ∙ c.if-not-is_quiet.true)

@@ -14,4 +14,4 @@ returns-then-u16_at-ne0 c =
 pub returns : goal.returns
 returns c =
     let z : u16 c.args.reply.now number_place ≡ 0 = omega arith in
-    λ st. rw (c.kind_answered.ensures, c.u16_at-k.ensures) (sym (heard_else st c.args.msg.now c.args.reply.now z))
+    λ st. rw (c.saturating_sub-k.ensures, c.u16_at-2.ensures, c.u16_at-3.ensures) (sym (heard_else st c.args.msg.now c.args.reply.now z))

@@ -1,8 +1,0 @@
--- The bit of a surface of the pool is off, and no other bit is changed.
-use Rattle.pool.proofs.MarkLaws.{without_bit}
-use native.Mathlib.Omega.{arith}
-use Rattle.pool.proofs.marks.without.Goals as goal
-
-pub returns-then-x-n : goal.returns-then-x-n
-returns-then-x-n c = λ i.
-    rw c.one.ensures (without_bit c.args.bits c.args.n c.args.x i (omega arith))
