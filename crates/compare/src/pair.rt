@@ -1,5 +1,5 @@
 // One pair of replies: how many bytes each has, where they differ, and the line that says so.
-ghost use Rattle.std.specs.Prelude.{◌≡◌, true, ◌+◌, ◌≤◌, length, drop, SomeIff};
+ghost use Rattle.std.specs.Prelude.{◌≡◌, true, ◌+◌, ◌*◌, ◌/◌, ◌≤◌, length, drop, SomeIff};
 ghost use Rattle.stream.specs.Text.{Wrote};
 ghost use Rattle.compare.specs.Lines.{first_place};
 ghost use Rattle.compare.specs.Pairs.{reply_size, ready, goes, pair_text};
@@ -53,14 +53,39 @@ pub(crate) fn next_pair(number: u64, first: Waiting, second: Waiting) -> Option<
     }
 }
 
-// The first place at which two replies differ, or the length of the shorter where they agree as far as both go.
+// How many bytes are compared in one step: for the machine, a piece of eight is a number.
+const PIECE: usize = 8;
+
+// How many bytes are equal in front, in whole pieces.
+fn equal_front(a: &[u8], b: &[u8]) -> usize
+    ensures pieces { result ≡ first_place a.now b.now / 8 * 8 }
+    ensures within { (result ≤ length a.now) × (result ≤ length b.now) }
+{
+    let (first, _) = a.as_chunks::<PIECE>();
+    let (second, _) = b.as_chunks::<PIECE>();
+    let pieces = first
+        .iter()
+        .zip(second.iter())
+        .position(|(p, q)| p != q)
+        .unwrap_or(first.len().min(second.len()));
+    pieces * PIECE
+}
+
+// The first place at which two replies differ, or the length of the shorter where they agree as far as both go. What
+// is equal in front is stepped over in pieces, and the few bytes left one by one. Both replies are cut to one length
+// first, so that no step tests two lengths.
 pub(crate) fn first_place(a: &[u8], b: &[u8]) -> usize
     ensures { result ≡ first_place a.now b.now }
 {
-    a.iter()
-        .zip(b.iter())
+    let both = a.len().min(b.len());
+    let (a, b) = (&a[..both], &b[..both]);
+    let near = equal_front(a, b);
+    let left = a[near..]
+        .iter()
+        .zip(b[near..].iter())
         .position(|(x, y)| x != y)
-        .unwrap_or(a.len().min(b.len()))
+        .unwrap_or(both - near);
+    near + left
 }
 
 // The line of a pair, or nothing where the replies are equal, as most are. A file that has no more replies gives no bytes.
@@ -69,7 +94,8 @@ pub(crate) fn put_line(out: &mut [u8], at: usize, number: u64, a: &[u8], b: &[u8
     ensures { Wrote out.old at (pair_text number a.now b.now) 49 result
         out.new }
 {
-    if a == b {
+    let p = first_place(a, b);
+    if (p == a.len()) & (p == b.len()) {
         return at;
     }
     let e = text::put_u64(out, at, number);
@@ -80,6 +106,6 @@ pub(crate) fn put_line(out: &mut [u8], at: usize, number: u64, a: &[u8], b: &[u8
         return text::put(out, e, b" only first\n");
     }
     let f = text::put(out, e, b" differ ");
-    let g = text::put_u64(out, f, first_place(a, b) as u64);
+    let g = text::put_u64(out, f, p as u64);
     text::put(out, g, b"\n")
 }

@@ -1,5 +1,5 @@
 // Records and replies in bytes, as document 01 has them: their kinds, the places of their parts and the widths of
-// these. Each place and each width is written once.
+// these. Each number is written once.
 ghost use Rattle.std.specs.Prelude.{◌≡◌};
 ghost use Rattle.paper.specs.Kinds.{reply_to};
 ghost use Rattle.format.specs.Kind.{number_of, Numbered, RepliesTo};
@@ -18,6 +18,23 @@ pub enum Kind {
     Abandon,
 }
 
+// The numbers of the kinds, as the enum above has them.
+const CONFIGURE: u16 = Kind::Configure as u16;
+
+const BEGIN: u16 = Kind::Begin as u16;
+
+const LISTS: u16 = Kind::Lists as u16;
+
+const FINISH: u16 = Kind::Finish as u16;
+
+const DRAIN: u16 = Kind::Drain as u16;
+
+const DISCARD: u16 = Kind::Discard as u16;
+
+const END: u16 = Kind::End as u16;
+
+const ABANDON: u16 = Kind::Abandon as u16;
+
 // A number that no kind of record has.
 #[derive(Clone, Copy, PartialEq, Eq, Debug)]
 pub struct UnknownKind(pub u16);
@@ -29,14 +46,14 @@ impl TryFrom<u16> for Kind {
 
     fn try_from(number: u16) -> Result<Self, UnknownKind> {
         match number {
-            1 => Ok(Kind::Configure),
-            2 => Ok(Kind::Begin),
-            3 => Ok(Kind::Lists),
-            4 => Ok(Kind::Finish),
-            5 => Ok(Kind::Drain),
-            6 => Ok(Kind::Discard),
-            7 => Ok(Kind::End),
-            8 => Ok(Kind::Abandon),
+            CONFIGURE => Ok(Kind::Configure),
+            BEGIN => Ok(Kind::Begin),
+            LISTS => Ok(Kind::Lists),
+            FINISH => Ok(Kind::Finish),
+            DRAIN => Ok(Kind::Drain),
+            DISCARD => Ok(Kind::Discard),
+            END => Ok(Kind::End),
+            ABANDON => Ok(Kind::Abandon),
             _ => Err(UnknownKind(number)),
         }
     }

@@ -4,14 +4,15 @@ use std::io::Write;
 use std::{fmt, io};
 use watch::{Book, Broken};
 
-// A number and the name of what is counted, with an s where the number is not 1.
+// A number and the name of what is counted, with an s where the number is not 1. The name comes with the blank in front
+// of it: so they are one piece for the writer.
 #[derive(Clone, Copy)]
 struct Count(u64, &'static str);
 
 impl fmt::Display for Count {
     fn fmt<W: fmt::Write>(&self, f: &mut fmt::Formatter<W>) -> fmt::Result {
         let s = if self.0 == 1 { "" } else { "s" };
-        write!(f, "{} {}{s}", self.0, self.1)
+        write!(f, "{}{}{s}", self.0, self.1)
     }
 }
 
@@ -37,7 +38,7 @@ pub(crate) fn broken<W: Write>(out: &mut W, number: u64, rest: usize, x: Broken)
     if rest == 0 {
         write!(out, "{}", x.part)?;
     } else {
-        let bytes = Count(rest as u64, "byte");
+        let bytes = Count(rest as u64, " byte");
         write!(out, "the replies end within it, after {bytes}")?;
     }
     writeln!(out, " (part {}){}", x.part.number(), Named(x.blamed))
@@ -47,7 +48,7 @@ pub(crate) fn broken<W: Write>(out: &mut W, number: u64, rest: usize, x: Broken)
 // and has no reply.
 pub(crate) fn kept<W: Write>(out: &mut W, b: Book, number: u64, rest: usize) -> io::Result<()> {
     let t = b.tally;
-    let begun = Count(b.begun, "picture");
+    let begun = Count(b.begun, " picture");
     write!(
         out,
         "kept: {begun} begun, {} handed out, {} thrown away, ",
@@ -59,13 +60,13 @@ pub(crate) fn kept<W: Write>(out: &mut W, b: Book, number: u64, rest: usize) -> 
         watch::current(b),
         watch::waiting(b)
     )?;
-    let held = Count(watch::surfaces(b) as u64, "surface");
-    let lists = Count(t.lists, "list");
-    let refused = Count(t.refused, "refusal");
-    let exchanges = Count(number, "exchange");
+    let held = Count(watch::surfaces(b) as u64, " surface");
+    let lists = Count(t.lists, " list");
+    let refused = Count(t.refused, " refusal");
+    let exchanges = Count(number, " exchange");
     writeln!(out, "{held} held, {lists} checked, {refused}, {exchanges}")?;
     if rest != 0 {
-        let bytes = Count(rest as u64, "byte");
+        let bytes = Count(rest as u64, " byte");
         writeln!(
             out,
             "the records end with {bytes} of a record that is not whole"

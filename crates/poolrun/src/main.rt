@@ -31,6 +31,9 @@ const HEAD: usize = 8;
 
 const ANSWER: usize = HEAD + Store::REPLY;
 
+// The kind of the return of a surface.
+const RETURN: u16 = 1;
+
 // What a call does, and what its answer says that it did.
 #[derive(Clone, Copy, PartialEq, Eq)]
 enum Kind {
@@ -44,7 +47,7 @@ impl Kind {
         ensures { result ≡ done_by call.now }
     {
         match wire::u16_at(call, kinds::KIND_PLACE) {
-            1 => Kind::Return,
+            RETURN => Kind::Return,
             _ => Kind::Record,
         }
     }
@@ -56,7 +59,7 @@ impl From<Kind> for u16 {
     fn from(kind: Kind) -> u16 {
         match kind {
             Kind::Record => 0,
-            Kind::Return => 1,
+            Kind::Return => RETURN,
         }
     }
 }
